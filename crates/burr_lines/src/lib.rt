@@ -5,20 +5,20 @@
 //! - `Unframed::of` takes a plan text as it is. What its `with` and `with_blanks` give is that text,
 //!   but any lines may stand in place of a line that ends by the word `auto` (`IsFilledIn`).
 //! - Beyond that it promises nothing but safety. Lines are looked up in `source_map` of burr_asm.
-//!   Memory is taken by `PlanLines::of` and `with`, by `Report::into_text`, and by `of`, `with`,
-//!   `with_blanks` and `parts_of` of `Unframed`; they answer `AllocError` where it is refused.
+//!   Memory is taken by `lines_of`, by `PlanLines::of` and `with`, by `Report::into_text`, and by `of`,
+//!   `with`, `with_blanks` and `parts_of` of `Unframed`; they answer `AllocError` where it is refused.
 //!
 //! # Tested only
-//! - No contract says which row of a frame a part of it is.
-//! - Nor does one say what a line says (`PlanLines`, `numbered_line`), where frames are due and which
-//!   say nothing (`Unframed`), what a plan has at a place of its code (`PlanText`), or what is added
-//!   to a text (`Shown`, `Report`).
+//! - No contract says what a line says (`PlanLines`, `lines_of`, `numbered_line`), where frames are due
+//!   and which say nothing (`Unframed`), what a plan has at a place of its code (`PlanText`), or what is
+//!   added to a text (`Shown`, `Report`).
 #![tactic(auto)]
 
 mod lines;
 mod plan_text;
 mod unframed;
 
-pub use lines::{FramePart, Line, PlanItem, PlanLines, numbered_line};
-pub use plan_text::{PlanText, Report, Shown, piece_name};
+pub use burr_asm::PlanPart;
+pub use lines::{FramePart, Line, PlanFrame, PlanLines, lines_of, numbered_line};
+pub use plan_text::{PlanText, Report, Shown};
 pub use unframed::{Due, Part, Unframed};

@@ -22,7 +22,10 @@ pub struct PlanText<'a, 'c> {
 impl<'a, 'c> PlanText<'a, 'c> {
     /// The name of a piece; nothing where there is no such piece.
     pub fn piece_name(&self, piece: u8) -> &'a str {
-        piece_name(self.assembly, piece)
+        if self.assembly.piece_count() <= piece {
+            return "";
+        }
+        self.assembly.piece_name(piece)
     }
 
     /// The cells of a piece at home; none where there is no such piece.
@@ -94,28 +97,11 @@ impl<'a, 'c> PlanText<'a, 'c> {
         None
     }
 
-    /// The instruction at a place of a procedure's code, and how many bytes it has; none where none
-    /// stands there.
-    pub fn instruction_at(&self, procedure: usize, pc: usize) -> Option<(Instr<'c>, usize)> {
-        fetch(self.procedure(procedure)?.code(), pc)
+    /// The instruction at a place of a procedure's code; none where none stands there.
+    pub fn instruction_at(&self, procedure: usize, pc: usize) -> Option<Instr<'c>> {
+        let (instruction, _size) = fetch(self.procedure(procedure)?.code(), pc)?;
+        Some(instruction)
     }
-
-    /// Where the instruction at a place of a procedure's code ends; that place where none stands
-    /// there.
-    pub fn end_of_instruction(&self, procedure: usize, pc: usize) -> usize {
-        match self.instruction_at(procedure, pc) {
-            Some((_, size)) => pc.saturating_add(size),
-            None => pc,
-        }
-    }
-}
-
-/// The name of a piece; nothing where there is no such piece.
-pub fn piece_name(assembly: &Assembly, piece: u8) -> &str {
-    if assembly.piece_count() <= piece {
-        return "";
-    }
-    assembly.piece_name(piece)
 }
 
 // Texts about lines.
@@ -154,11 +140,6 @@ impl Report {
         if write!(self.text, "{words}").is_err() {
             self.is_whole = false;
         }
-    }
-
-    /// Takes over whether what is added to it is whole.
-    pub fn lose_unless(&mut self, is_whole: bool) {
-        self.is_whole = self.is_whole && is_whole;
     }
 
     /// Whether nothing was added.

@@ -4,10 +4,11 @@ ghost use Rattle.std.specs.Prelude.{◌≡◌, ◌++◌, Contains, codes, IfOk, 
 ghost use Rattle.burr_lines.specs.FilledTexts.{EndsByAuto, IsFilledIn};
 ghost use Rattle.burr_lines.specs.Parts.{AddsFor, IsDue};
 
+use crate::lines::Line;
 use crate::plan_text::{Report, Shown};
 use burr_asm::{PlanPart, source_map};
 use burr_code::limits::MOST_BUDGET;
-use burr_text::{cut_at, integer};
+use burr_text::cut_at;
 use std::alloc::{AllocError, Global};
 use std::marker::Model;
 
@@ -110,12 +111,16 @@ impl Heading {
             return;
         }
         self.due = None;
-        match word(line, 0) {
-            b"plan" | b"plan2" => self.pieces = usize::from(number(word(line, 2))),
+        let line = Line {
+            number: 0,
+            bytes: line,
+        };
+        match line.word(0) {
+            b"plan" | b"plan2" => self.pieces = usize::from(line.number_in(2)),
             b"proc" => {
                 self.due = Some(Due::Exit {
                     procedure: self.procedures,
-                    results: usize::from(number(word(line, 3))),
+                    results: usize::from(line.number_in(3)),
                 });
                 self.procedures = self.procedures.saturating_add(1);
             }
@@ -270,20 +275,4 @@ impl<'a> Unframed<'a> {
         }
         own
     }
-}
-
-/// The number that a word tells; 0 where it tells none of 0 to 255.
-fn number(word: &[u8]) -> u8 {
-    integer(word)
-        .and_then(|number| u8::try_from(number).ok())
-        .unwrap_or(0)
-}
-
-/// A word of a line, counted from 0; nothing where there are fewer.
-fn word(line: &[u8], count: usize) -> &[u8] {
-    let mut rest = line;
-    for _ in 0..count {
-        rest = cut_at(rest, b' ').map_or(b"", |(_, after)| after);
-    }
-    cut_at(rest, b' ').map_or(rest, |(before, _)| before)
 }

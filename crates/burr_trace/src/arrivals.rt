@@ -1,14 +1,11 @@
 //! What a run of a plan text comes to: its labels, and the ends of its procedures.
 
-ghost use Rattle.std.specs.Prelude.{◌<◌};
-ghost use Rattle.burr_code.specs.declared.limits.TheConstants.{SLOTS};
-
 use crate::frame::Visit;
 use crate::questions::Question;
 use crate::trace::Snapshot;
-use burr_asm::PlanPart;
 use burr_code::Instr;
-use burr_lines::{Line, PlanLines, PlanText, Unframed};
+use burr_code::limits::SLOTS;
+use burr_lines::{Line, PlanLines, PlanPart, PlanText, Unframed};
 use burr_runs::Observer;
 use burr_state::{BenchState, Mode};
 use std::alloc::{AllocError, Global};
@@ -18,6 +15,8 @@ use std::alloc::{AllocError, Global};
 pub struct Arrival {
     /// The number of the label.
     pub label: usize,
+    /// How many activations there were, its own included.
+    depth: usize,
     /// The steps that were made before it.
     pub steps: u64,
     /// The steps from there to the end of the activation, or of the run; 0 while that goes on.
@@ -37,22 +36,6 @@ impl Arrival {
     }
 }
 
-/// A return of a run from a procedure.
-#[derive(Drop)]
-pub struct Return {
-    pub procedure: usize,
-    pub snapshot: Snapshot,
-}
-
-/// An arrival whose activation goes on.
-#[derive(Clone, Copy)]
-struct Open {
-    /// Its number.
-    arrival: usize,
-    /// How many activations there were, its own included.
-    depth: usize,
-}
-
 /// Where a run stood when it was last seen.
 #[derive(Clone, Copy)]
 pub struct Stand {
@@ -66,20 +49,6 @@ pub struct Stand {
     next: Option<i32>,
 }
 
-impl Stand {
-    /// Where a bench stands with these answers left.
-    fn of(state: &BenchState, answers: &[i32]) -> Stand {
-        Stand {
-            procedure: usize::from(state.procedure()),
-            pc: state.pc(),
-            has_ended: state.mode() == Mode::Ended,
-            steps: state.steps(),
-            left: answers.len(),
-            next: answers.first().copied(),
-        }
-    }
-}
-
 /// What the run of a plan text came to: who makes the run lets this look on.
 #[derive(Drop)]
 pub struct Arrivals<'x, 'a, 'c> {
@@ -87,9 +56,10 @@ pub struct Arrivals<'x, 'a, 'c> {
     pub labels: &'x Labels<'a, 'c>,
     /// In their order.
     pub arrivals: Vec<Arrival>,
-    pub returns: Vec<Return>,
-    /// The innermost last.
-    open: Vec<Open>,
+    /// The returns from procedures, each with the procedure.
+    pub returns: Vec<(usize, Snapshot)>,
+    /// The numbers of the arrivals whose activations go on, the innermost last.
+    open: Vec<usize>,
     stand: Option<Stand>,
     /// The answer that was taken last.
     answer: Option<i32>,
@@ -127,17 +97,12 @@ impl<'x, 'a, 'c> Arrivals<'x, 'a, 'c> {
     /// The question at which the run stood when it was last seen; none where it asked nothing there.
     pub fn question(&self) -> Option<Question> {
         let stand = self.stand?;
-        match self.labels.instruction_at(stand.procedure, stand.pc)? {
-            Instr::Ask(least, greatest) => Some(Question {
-                least: i32::from(least),
-                greatest: i32::from(greatest),
-                is_choice: false,
-            }),
-            Instr::Pick(offer) => Some(Question {
-                least: 0,
-                greatest: i32::try_from(offer.len()).unwrap_or(1).saturating_sub(1),
-                is_choice: true,
-            }),
+        match self.labels.plan.instruction_at(stand.procedure, stand.pc)? {
+            Instr::Ask(least, greatest) => Some(Question::number(
+                i32::from(least),
+                i32::from(greatest),
+            )),
+            Instr::Pick(offer) => Some(Question::choice(offer.len())),
             _ => None,
         }
     }
@@ -145,15 +110,16 @@ impl<'x, 'a, 'c> Arrivals<'x, 'a, 'c> {
     /// Counts the costs of arrivals above this many activations, which have ended after these steps.
     fn close_above(&mut self, depth: usize, steps: u64) {
         for _ in 0..self.open.len() {
-            match self.open.last().copied() {
-                Some(open) if depth < open.depth => {
-                    if let Some(arrival) = self.arrivals.get_mut(open.arrival) {
-                        arrival.cost = steps.saturating_sub(arrival.steps);
-                    }
-                    self.open.pop();
+            let Some(number) = self.open.last().copied() else {
+                return;
+            };
+            match self.arrivals.get_mut(number) {
+                Some(arrival) if depth < arrival.depth => {
+                    arrival.cost = steps.saturating_sub(arrival.steps);
                 }
                 _ => return,
             }
+            self.open.pop();
         }
     }
 
@@ -166,7 +132,7 @@ impl<'x, 'a, 'c> Arrivals<'x, 'a, 'c> {
         if let Some(label) = self.labels.at(stand.procedure, stand.pc) {
             self.note_arrival(label, state, stand)?;
         }
-        match self.labels.instruction_at(stand.procedure, stand.pc) {
+        match self.labels.plan.instruction_at(stand.procedure, stand.pc) {
             Some(Instr::Ret) => self.note_return(stand.procedure, state),
             _ => Ok(()),
         }
@@ -179,16 +145,14 @@ impl<'x, 'a, 'c> Arrivals<'x, 'a, 'c> {
         state: &BenchState,
         stand: &Stand,
     ) -> Result<(), AllocError> {
-        self.open.push(Open {
-            arrival: self.arrivals.len(),
-            depth: state.depth(),
-        })?;
+        self.open.push(self.arrivals.len())?;
         self.arrivals.push(Arrival {
             label,
+            depth: state.depth(),
             steps: stand.steps,
             cost: 0,
             answer: self.answer,
-            snapshot: Snapshot::of(self.alloc, state)?,
+            snapshot: Snapshot::of(self.alloc, state, SLOTS as u8, state.operands())?,
         })?;
         Ok(())
     }
@@ -199,17 +163,22 @@ impl<'x, 'a, 'c> Arrivals<'x, 'a, 'c> {
             return Ok(());
         };
         let (parameters, results) = (returning.params(), returning.results());
-        self.returns.push(Return {
-            procedure,
-            snapshot: Snapshot::at_return(self.alloc, state, parameters, results)?,
-        })?;
+        let snapshot = Snapshot::at_return(self.alloc, state, parameters, results)?;
+        self.returns.push((procedure, snapshot))?;
         Ok(())
     }
 }
 
 impl Observer for Arrivals<'_, '_, '_> {
     fn observe(&mut self, state: &BenchState, answers: &[i32]) {
-        let stand = Stand::of(state, answers);
+        let stand = Stand {
+            procedure: usize::from(state.procedure()),
+            pc: state.pc(),
+            has_ended: state.mode() == Mode::Ended,
+            steps: state.steps(),
+            left: answers.len(),
+            next: answers.first().copied(),
+        };
         let before = self.stand;
         self.stand = Some(stand);
         match before {
@@ -233,8 +202,8 @@ pub struct Label<'a> {
     pub procedure: usize,
     /// Its own number within that.
     pub number: usize,
-    /// The line that names the procedure.
-    pub procedure_line: Line<'a>,
+    /// The name of its procedure.
+    pub procedure_name: &'a [u8],
     /// Where it stands in the procedure's code.
     pub pc: usize,
     /// The line that names it.
@@ -245,7 +214,7 @@ pub struct Label<'a> {
 #[derive(Drop)]
 pub struct Labels<'a, 'c> {
     pub plan: PlanText<'a, 'c>,
-    pub lines: PlanLines<'a, 'c>,
+    pub lines: PlanLines<'a>,
     labels: Vec<Label<'a>>,
 }
 
@@ -257,21 +226,20 @@ impl<'a, 'c> Labels<'a, 'c> {
         unframed: &Unframed<'_>,
         blank: &[u8],
     ) -> Result<Labels<'a, 'c>, AllocError> {
-        let lines = PlanLines::with(alloc, plan, unframed.parts_of(blank)?)?;
+        let lines = PlanLines::with(alloc, plan.text, unframed.parts_of(blank)?)?;
         let mut labels = Vec::new(alloc);
-        let mut head = lines.line(0);
+        let mut procedure_name: &[u8] = b"";
         for (part, number) in lines.parts() {
+            let line = lines.line(*number);
             match *part {
-                PlanPart::Procedure(_) => head = lines.line(*number),
-                PlanPart::Label { procedure, label } => {
-                    labels.push(Label {
-                        procedure,
-                        number: label,
-                        procedure_line: head,
-                        pc: plan.position(procedure, label).unwrap_or(0),
-                        line: lines.line(*number),
-                    })?;
-                }
+                PlanPart::Procedure(_) => procedure_name = line.word(1),
+                PlanPart::Label { procedure, label } => labels.push(Label {
+                    procedure,
+                    number: label,
+                    procedure_name,
+                    pc: plan.position(procedure, label).unwrap_or(0),
+                    line,
+                })?,
                 _ => {}
             }
         }
@@ -291,14 +259,10 @@ impl<'a, 'c> Labels<'a, 'c> {
     /// there.
     pub fn at(&self, procedure: usize, pc: usize) -> Option<usize> {
         let wanted = (procedure, pc);
-        let number = self
-            .labels
-            .partition_point(|label| (label.procedure, label.pc) < wanted);
-        let label = self.labels.get(number)?;
-        if label.procedure == procedure && label.pc == pc {
-            return Some(number);
-        }
-        None
+        let labels = &self.labels;
+        let number = labels.partition_point(|label| (label.procedure, label.pc) < wanted);
+        let label = labels.get(number)?;
+        ((label.procedure, label.pc) == wanted).then_some(number)
     }
 
     /// The number, from 0, of a label that a procedure's code names.
@@ -306,21 +270,5 @@ impl<'a, 'c> Labels<'a, 'c> {
         self.labels
             .partition_point(|other| other.procedure < procedure)
             .saturating_add(usize::from(label))
-    }
-
-    /// Whether a slot is live in the frame of a label.
-    pub fn has_live(&self, label: &Label<'_>, slot: u8) -> bool
-        requires { slot < SLOTS }
-    {
-        match self.plan.frame(label.procedure, label.number) {
-            Some(frame) => frame.slot(slot).is_some(),
-            None => false,
-        }
-    }
-
-    /// The instruction at a place of a procedure's code; none where none stands there.
-    pub fn instruction_at(&self, procedure: usize, pc: usize) -> Option<Instr<'c>> {
-        let (instruction, _size) = self.plan.instruction_at(procedure, pc)?;
-        Some(instruction)
     }
 }

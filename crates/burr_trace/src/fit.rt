@@ -1,55 +1,61 @@
 //! Numbers that were seen, as forms over slots.
 
-use arrayvec::ArrayVec;
 use burr_code::limits::SLOTS;
 use std::alloc::{AllocError, Global};
 use std::fmt;
 
+/// A set of slots: bit v is slot v.
+pub type Slots = u8;
+
 /// The unknown numbers of a form: its constant, and a factor for each slot.
 const UNKNOWNS: usize = SLOTS + 1;
 
-/// Numbers of slots.
-pub type SlotList = ArrayVec<usize, SLOTS>;
+/// How many numbers a point has.
+pub const PLACES: usize = UNKNOWNS + 1;
 
-/// The lists of slots that a form may use: first those with the fewest slots beside the ones that
-/// are had anyway, and of these the shortest.
-pub fn slot_choices(
-    alloc: Global,
-    had: &SlotList,
-    others: &SlotList,
-) -> Result<Vec<SlotList>, AllocError> {
-    let mut choices: Vec<SlotList> = Vec::new(alloc);
-    choices.push(SlotList::new())?;
-    for slot in had.iter().chain(others) {
-        for n in 0..choices.len() {
-            if let Some(choice) = choices.get(n) {
-                let mut longer = choice.clone()?;
-                let _ = longer.try_push(*slot);
-                choices.push(longer)?;
-            }
+/// Where the number of a point stands in it, after a one and what each slot held.
+pub const NUMBER: usize = UNKNOWNS;
+
+/// A number that was seen once, after a one and what each slot held then. A form gives it where its constant
+/// and its factors, each times the number in its place, have the last number as their sum.
+pub type Point = [i64; PLACES];
+
+/// The sets of slots that a form may use: first those with the fewest slots beside the ones that
+/// are had anyway, and of these the smallest.
+pub fn slot_choices(alloc: Global, had: Slots, others: Slots) -> Result<Vec<Slots>, AllocError> {
+    let mut choices = Vec::new(alloc);
+    for choice in 0..=Slots::MAX {
+        if choice & !(had | others) == 0 {
+            choices.push(choice)?;
         }
     }
-    choices.sort_by_key(|choice| (count_among(choice, others), choice.len()))?;
+    choices.sort_by_key(|choice| {
+        let more = *choice & others;
+        (more.count_ones(), choice.count_ones(), more)
+    })?;
     Ok(choices)
 }
 
-/// How many slots of a list are among others.
-fn count_among(list: &SlotList, others: &SlotList) -> usize {
-    list.iter().filter(|slot| others.contains(slot)).count()
-}
-
-/// A number that was seen once, and what the slots held then.
-#[derive(Clone, Copy, Drop)]
-pub struct Point {
-    pub slots: [i64; SLOTS],
-    pub number: i64,
-}
-
-impl Point {
-    /// What a slot held; 0 where there is no such slot.
-    pub fn held(&self, slot: usize) -> i64 {
-        self.slots.get(slot).copied().unwrap_or(0)
+/// The least and the greatest number at each place of some points.
+pub fn ranges_of(points: &[Point]) -> [(i64, i64); PLACES] {
+    let mut ranges = [(i64::MAX, i64::MIN); PLACES];
+    for point in points {
+        for (range, number) in ranges.iter_mut().zip(point) {
+            *range = (range.0.min(*number), range.1.max(*number));
+        }
     }
+    ranges
+}
+
+/// A point, without what other slots than these held.
+pub fn over(slots: Slots, point: &Point) -> Point {
+    let mut left = *point;
+    for slot in 0..SLOTS {
+        if slots & (1 << slot) == 0 {
+            left[slot + 1] = 0;
+        }
+    }
+    left
 }
 
 /// What is found of a number: a form of the slots that gives it at each point, or how far it goes.
@@ -60,15 +66,15 @@ pub enum Fit {
 }
 
 impl Fit {
-    /// The fit of a number at these points: the form over the first of these lists of slots over
+    /// The fit of a number at these points: the form over the first of these sets of slots over
     /// which there is a form, else a range.
-    pub fn of(points: &[Point], choices: &[SlotList]) -> Fit {
+    pub fn of(points: &[Point], choices: &[Slots]) -> Fit {
         for slots in choices {
-            if let Some(form) = FittedForm::through(points, slots) {
+            if let Some(form) = FittedForm::through(points, *slots) {
                 return Fit::Form(form);
             }
         }
-        let (least, greatest) = range_of(points);
+        let (least, greatest) = ranges_of(points)[NUMBER];
         Fit::Range(least, greatest)
     }
 
@@ -77,9 +83,12 @@ impl Fit {
         matches!(self, Fit::Form(_))
     }
 
-    /// Whether it is a form that has this slot.
-    pub fn has_slot(&self, slot: usize) -> bool {
-        matches!(self, Fit::Form(form) if form.factor(slot) != 0)
+    /// The slots of the form that is found.
+    pub fn slots(&self) -> Slots {
+        match self {
+            Fit::Form(form) => form.slots(),
+            Fit::Range(..) => 0,
+        }
     }
 }
 
@@ -92,101 +101,61 @@ impl fmt::Display for Fit {
     }
 }
 
-/// The least and the greatest number at some points.
-pub fn range_of(points: &[Point]) -> (i64, i64) {
-    let mut range = None;
-    for point in points {
-        let (least, greatest): (i64, i64) = range.unwrap_or((point.number, point.number));
-        range = Some((least.min(point.number), greatest.max(point.number)));
-    }
-    range.unwrap_or((0, 0))
-}
-
-/// A form over slots.
+/// A form over slots: its constant, and a factor for each slot.
 #[derive(Clone, Copy, Default, Drop, PartialEq, Eq)]
-pub struct FittedForm {
-    constant: i64,
-    factors: [i64; SLOTS],
-}
+pub struct FittedForm(pub [i64; UNKNOWNS]);
 
 impl FittedForm {
-    /// A number.
-    pub fn of_constant(constant: i64) -> FittedForm {
-        FittedForm {
-            constant,
-            factors: [0; SLOTS],
-        }
-    }
-
-    /// What a slot holds.
-    pub fn of_slot(slot: usize) -> FittedForm {
-        let mut form = FittedForm::of_constant(0);
-        form.set_factor(slot, 1);
-        form
-    }
-
     /// The form over these slots that gives the number at each point; None where there is no such
     /// form, or its factors are not whole.
-    fn through(points: &[Point], slots: &SlotList) -> Option<FittedForm> {
-        let mut equations = Equations::new();
+    fn through(points: &[Point], slots: Slots) -> Option<FittedForm> {
+        let mut equations = Equations::default();
         for point in points {
-            equations.add(Equation::of(point, slots))?;
+            equations.add(&over(slots, point))?;
         }
-        let unknowns = equations.solve()?;
-        let mut form = FittedForm::of_constant(unknowns[0]);
-        for (slot, factor) in slots.iter().zip(&unknowns[1..]) {
-            form.set_factor(*slot, *factor);
-        }
-        Some(form)
-    }
-
-    /// The factor of a slot.
-    pub fn factor(&self, slot: usize) -> i64 {
-        self.factors.get(slot).copied().unwrap_or(0)
-    }
-
-    /// Gives a slot a factor.
-    pub fn set_factor(&mut self, slot: usize, factor: i64) {
-        if let Some(place) = self.factors.get_mut(slot) {
-            *place = factor;
-        }
-    }
-
-    /// What is left of it without another form.
-    pub fn less(&self, other: &FittedForm) -> FittedForm {
-        let mut left = self.raised_by(other.constant.saturating_neg());
-        for (factor, others) in left.factors.iter_mut().zip(&other.factors) {
-            *factor = factor.saturating_sub(*others);
-        }
-        left
-    }
-
-    /// The form that gives so much more.
-    pub fn raised_by(&self, number: i64) -> FittedForm {
-        FittedForm {
-            constant: self.constant.saturating_add(number),
-            factors: self.factors,
-        }
+        equations.solve()
     }
 
     /// A form that is at least the number at each point, with factors for these slots as the number grows
     /// from the least to the greatest that they hold.
-    pub fn above(points: &[Point], slots: &SlotList) -> FittedForm {
-        let mut form = FittedForm::of_constant(0);
-        for slot in slots {
-            form.set_factor(*slot, growth(points, *slot));
+    pub fn above(points: &[Point], slots: Slots) -> FittedForm {
+        let mut form = FittedForm::default();
+        for slot in 0..SLOTS {
+            if slots & (1 << slot) != 0 {
+                form.0[slot + 1] = growth(points, slot + 1);
+            }
         }
-        let mut raise = i64::MIN;
-        for point in points {
-            raise = raise.max(point.number.saturating_sub(form.at(&point.slots)));
-        }
-        form.raised_by(raise)
+        let wanting = points
+            .iter()
+            .map(|point| point[NUMBER].saturating_sub(form.at(point)));
+        form.0[0] = wanting.max().unwrap_or(0);
+        form
     }
 
-    /// The number that it gives where the slots hold these.
-    pub fn at(&self, slots: &[i64; SLOTS]) -> i64 {
-        let mut number = self.constant;
-        for (factor, held) in self.factors.iter().zip(slots) {
+    /// The slots that it has.
+    fn slots(&self) -> Slots {
+        let mut slots = 0;
+        for slot in 0..SLOTS {
+            if self.0[slot + 1] != 0 {
+                slots |= 1 << slot;
+            }
+        }
+        slots
+    }
+
+    /// What is left of it without another form.
+    pub fn less(&self, other: &FittedForm) -> FittedForm {
+        let mut left = *self;
+        for (number, others) in left.0.iter_mut().zip(&other.0) {
+            *number = number.saturating_sub(*others);
+        }
+        left
+    }
+
+    /// The number that it gives where the slots held what they did at a point.
+    pub fn at(&self, point: &Point) -> i64 {
+        let mut number: i64 = 0;
+        for (factor, held) in self.0.iter().zip(point) {
             number = number.saturating_add(factor.saturating_mul(*held));
         }
         number
@@ -195,104 +164,93 @@ impl FittedForm {
 
 impl fmt::Display for FittedForm {
     fn fmt<W: fmt::Write>(&self, f: &mut fmt::Formatter<W>) -> fmt::Result {
-        let constant = self.constant;
+        let constant = self.0[0];
         write!(f, "{constant}")?;
-        for (slot, factor) in self.factors.iter().enumerate() {
-            let factor = *factor;
-            let sign = if 0 < factor { "+" } else { "" };
-            if factor != 0 {
-                write!(f, "{sign}{factor}v{slot}")?;
+        for (slot, factor) in self.0[1..].iter().enumerate() {
+            if *factor != 0 {
+                write!(f, "{factor:+}v{slot}")?;
             }
         }
         Ok(())
     }
 }
 
-/// By how much the greatest number grows with a slot, a unit, from the least to the greatest that it
-/// holds; more rather than less.
-fn growth(points: &[Point], slot: usize) -> i64 {
-    let mut least = i64::MAX;
-    let mut most = i64::MIN;
-    for point in points {
-        least = least.min(point.held(slot));
-        most = most.max(point.held(slot));
+/// By how much the greatest number grows with what stands at a place, a unit, from the least to the greatest
+/// that stands there; more rather than less.
+fn growth(points: &[Point], place: usize) -> i64 {
+    let (least, greatest) = ranges_of(points).get(place).copied().unwrap_or((0, 0));
+    let grown = greatest_at(points, place, greatest).saturating_sub(greatest_at(
+        points, place, least,
+    ));
+    let units = greatest.saturating_sub(least);
+    let rounded_up = grown.saturating_add(units.saturating_sub(1));
+    rounded_up.checked_div_euclid(units).unwrap_or(0)
+}
+
+/// The greatest number at the points that hold this at a place.
+fn greatest_at(points: &[Point], place: usize, held: i64) -> i64 {
+    let found = points
+        .iter()
+        .filter(|point| point.get(place) == Some(&held));
+    found.map(|point| point[NUMBER]).max().unwrap_or(i64::MIN)
+}
+
+/// The equations of points, each with the first unknown number that it has, in echelon form.
+#[derive(Clone, Copy, Default)]
+struct Equations {
+    by_unknown: [Option<Point>; UNKNOWNS],
+}
+
+impl Equations {
+    /// Adds an equation; none where no numbers meet it beside the others.
+    fn add(&mut self, equation: &Point) -> Option<()> {
+        let mut left = *equation;
+        for unknown in 0..UNKNOWNS {
+            if left[unknown] == 0 {
+                continue;
+            }
+            match &self.by_unknown[unknown] {
+                Some(other) => left = without(&left, unknown, other)?,
+                None => {
+                    self.by_unknown[unknown] = Some(left);
+                    return Some(());
+                }
+            }
+        }
+        if left[NUMBER] == 0 { Some(()) } else { None }
     }
-    let grown = greatest_at(points, slot, most).saturating_sub(greatest_at(points, slot, least));
-    let units = most.saturating_sub(least);
-    match (
-        grown.checked_div_euclid(units),
-        grown.checked_rem_euclid(units),
-    ) {
-        (Some(whole), Some(0)) => whole,
-        (Some(whole), _) => whole.saturating_add(1),
-        (None, _) => 0,
+
+    /// A form with whole numbers that meet all of them, with 0 for each unknown number that may be any.
+    fn solve(&self) -> Option<FittedForm> {
+        let mut found: [i64; UNKNOWNS] = [0; UNKNOWNS];
+        for unknown in (0..UNKNOWNS).rev() {
+            if let Some(equation) = &self.by_unknown[unknown] {
+                let mut left = equation[NUMBER];
+                for (coefficient, number) in equation.iter().zip(&found) {
+                    left = left.checked_sub(coefficient.checked_mul(*number)?)?;
+                }
+                if left.checked_rem(equation[unknown])? != 0 {
+                    return None;
+                }
+                found[unknown] = left.checked_div(equation[unknown])?;
+            }
+        }
+        Some(FittedForm(found))
     }
 }
 
-/// The greatest number at the points where a slot holds this.
-fn greatest_at(points: &[Point], slot: usize, held: i64) -> i64 {
-    let mut greatest = i64::MIN;
-    for point in points {
-        if point.held(slot) == held {
-            greatest = greatest.max(point.number);
-        }
+/// What is left of an equation without an unknown number, by another equation that has that, in the least
+/// whole numbers; none where the numbers are too great.
+fn without(own: &Point, unknown: usize, other: &Point) -> Option<Point> {
+    let (coefficient, others) = (*own.get(unknown)?, *other.get(unknown)?);
+    let mut left = [0; PLACES];
+    let mut divisor = 0;
+    for n in 0..PLACES {
+        let product = own[n].checked_mul(others)?;
+        left[n] = product.checked_sub(other[n].checked_mul(coefficient)?)?;
+        divisor = common_divisor(divisor, left[n]);
     }
-    greatest
-}
-
-/// What a point asks of a form's unknown numbers: that their multiples by these coefficients have a sum.
-#[derive(Clone, Copy)]
-struct Equation {
-    coefficients: [i64; UNKNOWNS],
-    sum: i64,
-}
-
-impl Equation {
-    /// The equation of a point, for a form of these slots.
-    fn of(point: &Point, slots: &SlotList) -> Equation {
-        let mut coefficients = [0; UNKNOWNS];
-        coefficients[0] = 1;
-        for (coefficient, slot) in coefficients[1..].iter_mut().zip(slots) {
-            *coefficient = point.held(*slot);
-        }
-        Equation {
-            coefficients,
-            sum: point.number,
-        }
-    }
-
-    /// What is left of it without an unknown number, by another equation that has that; none where the
-    /// numbers are too great.
-    fn without(&self, unknown: usize, other: &Equation) -> Option<Equation> {
-        let own = *self.coefficients.get(unknown)?;
-        let others = *other.coefficients.get(unknown)?;
-        let mut left = Equation {
-            coefficients: [0; UNKNOWNS],
-            sum: cross(self.sum, others, other.sum, own)?,
-        };
-        for n in 0..UNKNOWNS {
-            left.coefficients[n] = cross(self.coefficients[n], others, other.coefficients[n], own)?;
-        }
-        Some(left.reduced())
-    }
-
-    /// The same equation in the least whole numbers.
-    fn reduced(&self) -> Equation {
-        let mut divisor = self.sum;
-        for coefficient in self.coefficients {
-            divisor = common_divisor(divisor, coefficient);
-        }
-        let quotient = |number: i64| number.checked_div(divisor).unwrap_or(number);
-        Equation {
-            coefficients: self.coefficients.map(quotient),
-            sum: quotient(self.sum),
-        }
-    }
-}
-
-/// A product less another one; none where it is too great.
-fn cross(a: i64, b: i64, c: i64, d: i64) -> Option<i64> {
-    a.checked_mul(b)?.checked_sub(c.checked_mul(d)?)
+    Some(left.map(|number| number.checked_div(divisor).unwrap_or(number)))
 }
 
 /// The greatest number that divides both; 0 of two zeros.
@@ -305,60 +263,4 @@ fn common_divisor(a: i64, b: i64) -> i64 {
         }
     }
     1
-}
-
-/// Equations, each with the first unknown number that it has, in echelon form.
-#[derive(Clone, Copy)]
-struct Equations {
-    by_unknown: [Option<Equation>; UNKNOWNS],
-}
-
-impl Equations {
-    /// None.
-    fn new() -> Equations {
-        Equations {
-            by_unknown: [None; UNKNOWNS],
-        }
-    }
-
-    /// Adds an equation; none where no numbers meet it beside the others.
-    fn add(&mut self, equation: Equation) -> Option<()> {
-        let mut left = equation;
-        for unknown in 0..UNKNOWNS {
-            if left.coefficients[unknown] == 0 {
-                continue;
-            }
-            match &self.by_unknown[unknown] {
-                Some(other) => left = left.without(unknown, other)?,
-                None => {
-                    self.by_unknown[unknown] = Some(left);
-                    return Some(());
-                }
-            }
-        }
-        if left.sum == 0 { Some(()) } else { None }
-    }
-
-    /// Whole numbers that meet all of them, with 0 for each unknown number that may be any.
-    fn solve(&self) -> Option<[i64; UNKNOWNS]> {
-        let mut found: [i64; UNKNOWNS] = [0; UNKNOWNS];
-        for unknown in (0..UNKNOWNS).rev() {
-            if let Some(equation) = &self.by_unknown[unknown] {
-                let mut left = equation.sum;
-                for (coefficient, number) in equation.coefficients.iter().zip(&found) {
-                    left = left.checked_sub(coefficient.checked_mul(*number)?)?;
-                }
-                found[unknown] = exact_quotient(left, equation.coefficients[unknown])?;
-            }
-        }
-        Some(found)
-    }
-}
-
-/// What a number has to be multiplied with to give another one; none where no whole number does.
-fn exact_quotient(product: i64, number: i64) -> Option<i64> {
-    match (product.checked_div(number), product.checked_rem(number)) {
-        (Some(quotient), Some(0)) => Some(quotient),
-        _ => None,
-    }
 }

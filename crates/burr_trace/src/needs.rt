@@ -1,13 +1,10 @@
 //! The slots that the labels of a plan text need: what is read from there on, and what frames have.
 
-use crate::arrivals::Labels;
-use crate::fit::SlotList;
+use crate::arrivals::{Label, Labels};
+use crate::fit::Slots;
 use burr_code::Instr;
 use burr_code::limits::{MOST_CODE, SLOTS};
 use std::alloc::{AllocError, Global};
-
-/// A set of slots.
-type Slots = [bool; SLOTS];
 
 /// A way from a label to the next one in its procedure, and the slots that are written on it.
 #[derive(Clone, Copy)]
@@ -25,64 +22,30 @@ pub struct Needs {
 }
 
 impl Needs {
-    /// Those that are read from each label on before they are written, up to the next label, and the
-    /// parameters of its procedure.
+    /// The parameters of each label's procedure, those that its frame has, and those that are read from
+    /// there on before they are written.
     pub fn of(alloc: Global, labels: &Labels<'_, '_>) -> Result<Needs, AllocError> {
         let mut needs = Needs {
             needed: Vec::new(alloc),
             ways: Vec::new(alloc),
         };
         for (number, label) in labels.as_slice().iter().enumerate() {
-            needs.needed.push([false; SLOTS])?;
-            for parameter in 0..usize::from(labels.plan.parameters(label.procedure)) {
-                needs.add(number, parameter);
-            }
-            needs.go_on_from(number, labels)?;
+            needs.needed.push(slots_of_frame(label, labels))?;
+            needs.go_on_from(number, label, labels)?;
         }
+        needs.spread();
         Ok(needs)
     }
 
-    /// Whether a label needs a slot.
-    pub fn has(&self, label: usize, slot: usize) -> bool {
-        match self.needed.get(label) {
-            Some(needed) => needed.get(slot).copied().unwrap_or(false),
-            None => false,
-        }
+    /// The slots that a label needs.
+    pub fn at(&self, label: usize) -> Slots {
+        self.needed.get(label).copied().unwrap_or(0)
     }
 
-    /// Those of some slots that a label needs, and the others.
-    pub fn parted(&self, label: usize, slots: &SlotList) -> (SlotList, SlotList) {
-        let mut needed = SlotList::new();
-        let mut others = SlotList::new();
-        for slot in slots {
-            let list = if self.has(label, *slot) {
-                &mut needed
-            } else {
-                &mut others
-            };
-            let _ = list.try_push(*slot);
-        }
-        (needed, others)
-    }
-
-    /// Adds a slot that a label needs.
-    pub fn add(&mut self, label: usize, slot: usize) {
+    /// Adds slots that a label needs.
+    pub fn add(&mut self, label: usize, slots: Slots) {
         if let Some(needed) = self.needed.get_mut(label) {
-            if let Some(place) = needed.get_mut(slot) {
-                *place = true;
-            }
-        }
-    }
-
-    /// Adds the slots that the frame of a label has, as its text has it.
-    pub fn add_those_of_frame(&mut self, number: usize, labels: &Labels<'_, '_>) {
-        let Some(label) = labels.as_slice().get(number) else {
-            return;
-        };
-        for slot in 0..SLOTS as u8 {
-            if labels.has_live(label, slot) {
-                self.add(number, usize::from(slot));
-            }
+            *needed |= slots;
         }
     }
 
@@ -94,12 +57,9 @@ impl Needs {
             let Some(way) = self.ways.get(n).copied() else {
                 return is_added;
             };
-            for slot in 0..SLOTS {
-                if self.has(way.to, slot) && !way.written[slot] && !self.has(way.from, slot) {
-                    self.add(way.from, slot);
-                    is_added = true;
-                }
-            }
+            let more = self.at(way.to) & !way.written & !self.at(way.from);
+            self.add(way.from, more);
+            is_added = is_added || more != 0;
         }
         is_added
     }
@@ -114,26 +74,27 @@ impl Needs {
     }
 
     /// Goes over the code from a label to the next labels.
-    fn go_on_from(&mut self, number: usize, labels: &Labels<'_, '_>) -> Result<(), AllocError> {
-        let Some(label) = labels.as_slice().get(number) else {
-            return Ok(());
-        };
-        let procedure = label.procedure;
+    fn go_on_from(
+        &mut self,
+        number: usize,
+        label: &Label<'_>,
+        labels: &Labels<'_, '_>,
+    ) -> Result<(), AllocError> {
         let mut way = Way {
             from: number,
             to: number,
-            written: [false; SLOTS],
+            written: 0,
         };
         let mut pc = label.pc;
         for _ in 0..MOST_CODE {
-            let Some(instruction) = labels.instruction_at(procedure, pc) else {
+            let Some(instruction) = labels.plan.instruction_at(label.procedure, pc) else {
                 return Ok(());
             };
-            if !self.go_over(&instruction, &mut way, procedure, labels)? {
+            if !self.go_over(&instruction, &mut way, label.procedure, labels)? {
                 return Ok(());
             }
             pc = pc.saturating_add(instruction.size());
-            if let Some(next) = labels.at(procedure, pc) {
+            if let Some(next) = labels.at(label.procedure, pc) {
                 return self.add_way(&way, next);
             }
         }
@@ -149,14 +110,10 @@ impl Needs {
         labels: &Labels<'_, '_>,
     ) -> Result<bool, AllocError> {
         match instruction {
-            Instr::Load(slot) => self.read(way, *slot),
-            Instr::Store(slot) => {
-                if let Some(place) = way.written.get_mut(usize::from(*slot)) {
-                    *place = true;
-                }
-            }
+            Instr::Load(slot) => self.add(way.from, only(*slot) & !way.written),
+            Instr::Store(slot) => way.written |= only(*slot),
             Instr::Down(slot, label) => {
-                self.read(way, *slot);
+                self.add(way.from, only(*slot) & !way.written);
                 self.add_way(way, labels.named(procedure, *label))?;
             }
             Instr::Jump(label) => {
@@ -177,17 +134,28 @@ impl Needs {
         Ok(true)
     }
 
-    /// Notes that a slot is read on a way.
-    fn read(&mut self, way: &Way, slot: u8) {
-        let slot = usize::from(slot);
-        if !way.written.get(slot).copied().unwrap_or(false) {
-            self.add(way.from, slot);
-        }
-    }
-
     /// Adds the way to a label.
     fn add_way(&mut self, way: &Way, to: usize) -> Result<(), AllocError> {
         self.ways.push(Way { to, ..*way })?;
         Ok(())
     }
+}
+
+/// The slots that the frame of a label has, as its text has it, and the parameters of its procedure.
+fn slots_of_frame(label: &Label<'_>, labels: &Labels<'_, '_>) -> Slots {
+    let parameters = labels.plan.parameters(label.procedure);
+    let frame = labels.plan.frame(label.procedure, label.number);
+    let mut slots = 0;
+    for slot in 0..SLOTS as u8 {
+        let is_live = matches!(&frame, Some(frame) if frame.slot(slot).is_some());
+        if is_live || slot < parameters {
+            slots |= 1 << slot;
+        }
+    }
+    slots
+}
+
+/// The set of this slot alone.
+fn only(slot: u8) -> Slots {
+    1u8.checked_shl(u32::from(slot)).unwrap_or(0)
 }

@@ -8,51 +8,55 @@ const MOST_LISTS: u64 = 20_000;
 /// How many runs are made at most.
 pub const MOST_RUNS: usize = 40_000;
 
-/// A question of a run: the least and the greatest answer, and whether it offers ways.
+/// A question of a run, with the answer that it is given.
 #[derive(Clone, Copy)]
 pub struct Question {
-    pub least: i32,
-    pub greatest: i32,
-    pub is_choice: bool,
-}
-
-/// A question, with the answer that it is given.
-#[derive(Clone, Copy)]
-struct Answered {
-    question: Question,
+    least: i32,
+    greatest: i32,
+    /// Whether it offers ways.
+    is_choice: bool,
     answer: i32,
 }
 
-impl Answered {
-    /// How many answers the question has.
-    fn count(&self) -> u64 {
-        let Question {
+impl Question {
+    /// A question for a number from the least to the greatest, which is given the least.
+    pub fn number(least: i32, greatest: i32) -> Question {
+        Question {
             least,
             greatest,
-            ..
-        } = self.question;
-        u64::from(greatest.abs_diff(least)).saturating_add(1)
+            is_choice: false,
+            answer: least,
+        }
+    }
+
+    /// A question that offers this many ways, which is given the first.
+    pub fn choice(ways: usize) -> Question {
+        let last = i32::try_from(ways).unwrap_or(1).saturating_sub(1);
+        Question {
+            is_choice: true,
+            ..Question::number(0, last)
+        }
+    }
+
+    /// How many answers it has.
+    fn count(&self) -> u64 {
+        u64::from(self.greatest.abs_diff(self.least)).saturating_add(1)
     }
 
     /// The next greater answer, of all or, at a question for a number, of the least, the middle and the
     /// greatest; none after the greatest.
     fn next(&self, has_all: bool) -> Option<i32> {
-        let Question {
-            least,
-            greatest,
-            is_choice,
-        } = self.question;
-        if greatest <= self.answer {
+        let middle = self.least.midpoint(self.greatest);
+        if self.greatest <= self.answer {
             return None;
         }
-        if has_all || is_choice {
+        if has_all || self.is_choice {
             return Some(self.answer.saturating_add(1));
         }
-        let middle = least.midpoint(greatest);
         Some(if self.answer < middle {
             middle
         } else {
-            greatest
+            self.greatest
         })
     }
 }
@@ -61,7 +65,7 @@ impl Answered {
 /// answer, or none any more and the one before it its next.
 #[derive(Drop)]
 pub struct Questions {
-    asked: Vec<Answered>,
+    asked: Vec<Question>,
     /// Whether each answer of a range is given, or only the least, the middle and the greatest.
     has_all: bool,
     /// How many lists have come to their ends.
@@ -114,27 +118,24 @@ impl Questions {
         }
     }
 
-    /// Adds the least answer of a question that the run with these answers comes to.
+    /// Adds a question that the run with these answers comes to.
     pub fn ask(&mut self, question: Question) -> Result<(), AllocError> {
-        self.asked.push(Answered {
-            question,
-            answer: question.least,
-        })?;
+        self.asked.push(question)?;
         Ok(())
     }
 
     /// Goes on to the next list; false where this was the last. With the answers of the first list there
     /// may be too many, or there have been: from then on some are passed over.
     pub fn advance(&mut self) -> bool {
-        if self.lists == 0 {
+        let lists = self.lists;
+        self.lists = lists.saturating_add(1);
+        if lists == 0 {
             self.has_all = self.product() <= MOST_LISTS;
-        } else if self.lists == MOST_LISTS && self.has_all {
+        } else if lists == MOST_LISTS && self.has_all {
             self.has_all = false;
-            self.lists = self.lists.saturating_add(1);
             self.asked.clear();
             return true;
         }
-        self.lists = self.lists.saturating_add(1);
         self.next_list()
     }
 

@@ -4,46 +4,18 @@ ghost use Rattle.std.specs.Prelude.{IfOk};
 ghost use Rattle.burr_lines.specs.FilledTexts.{IsFilledIn};
 
 use crate::arrivals::{Arrivals, Labels};
-use crate::fit::SlotList;
-use crate::frame::{Frame, Visit};
+use crate::fit::Slots;
+use crate::frame::{Frame, Outline, Visit};
 use crate::needs::Needs;
 use crate::trace::Snapshot;
-use burr_code::limits::{MOST_BUDGET, SLOTS};
+use burr_code::limits::MOST_BUDGET;
 use burr_lines::{Due, Line, Part, Report, Unframed};
 use std::alloc::{AllocError, Global};
 use std::collections::BTreeMap;
 
 /// What was seen at a place: what held, each once, and the most steps that its activation still made
 /// then.
-#[derive(Drop)]
-struct Seen {
-    visits: BTreeMap<Snapshot, u64>,
-}
-
-impl Seen {
-    /// Takes a visit.
-    fn add(&mut self, snapshot: Snapshot, cost: u64) -> Result<(), AllocError> {
-        match self.visits.get_mut(&snapshot) {
-            Some(most) => *most = cost.max(*most),
-            None => {
-                self.visits.insert(snapshot, cost)?;
-            }
-        }
-        Ok(())
-    }
-
-    /// The visits.
-    fn visits(&self, alloc: Global) -> Result<Vec<Visit<'_>>, AllocError> {
-        let mut visits = Vec::new(alloc);
-        for (snapshot, cost) in self.visits.iter() {
-            visits.push(Visit {
-                snapshot,
-                cost: *cost,
-            })?;
-        }
-        Ok(visits)
-    }
-}
+type Seen = BTreeMap<Snapshot, u64>;
 
 /// What was seen of a plan text over all its runs.
 #[derive(Drop)]
@@ -69,14 +41,15 @@ impl Sightings {
     pub fn add_run(&mut self, mut run: Arrivals<'_, '_, '_>) -> Result<(), AllocError> {
         run.close()?;
         for arrival in run.arrivals {
-            if let Some(seen) = self.at_labels.get_mut(arrival.label) {
-                seen.add(arrival.snapshot, arrival.cost)?;
-            }
+            add_to(
+                &mut self.at_labels,
+                arrival.label,
+                arrival.snapshot,
+                arrival.cost,
+            )?;
         }
-        for returned in run.returns {
-            if let Some(seen) = self.at_returns.get_mut(returned.procedure) {
-                seen.add(returned.snapshot, 0)?;
-            }
+        for (procedure, snapshot) in run.returns {
+            add_to(&mut self.at_returns, procedure, snapshot, 0)?;
         }
         Ok(())
     }
@@ -91,95 +64,119 @@ impl Sightings {
     {
         let parts = unframed.parts();
         let needs = self.needs(parts, labels)?;
-        let finding = Finding {
-            sightings: self,
-            parts,
-            labels,
-            needs: &needs,
-        };
         let mut fills = Vec::new(self.alloc);
-        let mut left = Left {
-            first: None,
-            notes: Report::new(self.alloc),
-        };
+        let mut left = None;
+        let mut notes = Report::new(self.alloc);
         for (n, part) in parts.iter().enumerate() {
-            fills.push(finding.lines_for(n.saturating_add(1), part, &mut left)?)?;
+            let (lines, lack) = self.lines_for(part, parts, labels, &needs)?;
+            let lines = lines.into_text()?;
+            if let Some(why) = lack {
+                let number = n.saturating_add(1);
+                let line = Line {
+                    number,
+                    bytes: part.line,
+                };
+                left = left.or(Some(number));
+                notes.add_line(labels.plan.file, &line);
+                notes.add_note(why);
+                notes.add_words(&lines);
+            }
+            fills.push(lack.is_none().then_some(lines))?;
         }
         Ok(Filled {
             text: unframed.with(&fills)?,
-            left: left.first,
-            notes: left.notes.into_text()?,
+            left,
+            notes: notes.into_text()?,
         })
     }
 
-    /// The slots that each label needs: those that are read, those of the frames that the text has, and
-    /// those of forms.
+    /// The slots that each label needs, and those that forms have in place of `auto` where slots that are
+    /// needed already do not do.
     fn needs(&self, parts: &[Part<'_>], labels: &Labels<'_, '_>) -> Result<Needs, AllocError> {
         let mut needs = Needs::of(self.alloc, labels)?;
-        let count = labels.as_slice().len();
-        for number in 0..count {
-            if !is_due(number, parts) {
-                needs.add_those_of_frame(number, labels);
-            }
-        }
-        needs.spread();
-        for number in 0..count {
-            if is_due(number, parts) {
-                self.add_needs_of_forms(number, &mut needs)?;
+        for part in parts {
+            if let Some(Due::Label(label)) = part.due {
+                let slots = needs.at(label);
+                let outline = Outline {
+                    slots,
+                    others: !slots,
+                    ..Outline::default()
+                };
+                let frame = self.frame(label, &outline)?;
+                needs.add(label, frame.slots_in_forms);
             }
         }
         needs.spread();
         Ok(needs)
     }
 
-    /// The visits of a label.
-    pub fn visits(&self, label: usize) -> Result<Vec<Visit<'_>>, AllocError> {
-        match self.at_labels.get(label) {
-            Some(seen) => seen.visits(self.alloc),
-            None => Ok(Vec::new(self.alloc)),
-        }
-    }
-
-    /// The frame of a label, which has the slots that the label needs; none where no run came to it.
-    pub fn frame(&self, label: usize, needs: &Needs) -> Result<Option<Frame>, AllocError> {
-        let visits = self.visits(label)?;
-        let (needed, _others) = needs.parted(label, &live_slots(&visits));
-        let mut frame = Frame::of(self.alloc, &visits, &needed, &SlotList::new())?;
-        if let Some(frame) = &mut frame {
-            frame.guard(&visits);
-        }
-        Ok(frame)
-    }
-
-    /// The exit frame of a procedure, with guards or without; none where no run returned from it.
-    pub fn exit(&self, procedure: usize, has_guards: bool) -> Result<Option<Frame>, AllocError> {
-        let Some(seen) = self.at_returns.get(procedure) else {
-            return Ok(None);
+    /// The lines in place of the one of this part as far as they are found, and why an `auto` stays there.
+    fn lines_for(
+        &self,
+        part: &Part<'_>,
+        parts: &[Part<'_>],
+        labels: &Labels<'_, '_>,
+        needs: &Needs,
+    ) -> Result<(Report, Option<&'static str>), AllocError> {
+        let frame = match part.due {
+            None => return Ok((Report::new(self.alloc), None)),
+            Some(Due::Budget) => return self.budget(part, parts, labels, needs),
+            Some(Due::Exit { procedure, .. }) => self.exit(procedure, labels)?,
+            Some(Due::Label(label)) => self.needed_frame(label, needs)?,
         };
-        let visits = seen.visits(self.alloc)?;
-        let slots = live_slots(&visits);
-        let mut frame = Frame::of(self.alloc, &visits, &slots, &SlotList::new())?;
-        if let Some(frame) = &mut frame {
-            if has_guards {
-                frame.guard(&visits);
-            }
-        }
-        Ok(frame)
+        let lack = frame.lack();
+        Ok((frame.lines, lack))
     }
 
-    /// Adds to what a label needs the slots that forms have there, where slots that it needs already do
-    /// not do.
-    pub fn add_needs_of_forms(&self, label: usize, needs: &mut Needs) -> Result<(), AllocError> {
-        let visits = self.visits(label)?;
-        let (needed, others) = needs.parted(label, &live_slots(&visits));
-        if let Some(frame) = Frame::of(self.alloc, &visits, &needed, &others)? {
-            for slot in &others {
-                if frame.has_slot(*slot) {
-                    needs.add(label, *slot);
-                }
-            }
+    /// The first line with the cost of the plan's first frame as its budget, or why `auto` stays there.
+    fn budget(
+        &self,
+        part: &Part<'_>,
+        parts: &[Part<'_>],
+        labels: &Labels<'_, '_>,
+        needs: &Needs,
+    ) -> Result<(Report, Option<&'static str>), AllocError> {
+        let is_due = |part: &Part<'_>| matches!(part.due, Some(Due::Label(0)));
+        let cost = if parts.iter().any(is_due) {
+            self.needed_frame(0, needs)?.cost_at_start
+        } else {
+            let frame = labels.plan.frame(0, 0);
+            frame.map_or(0, |frame| frame.cost().constant)
+        };
+        let mut line = Report::new(self.alloc);
+        if cost < 1 || i64::from(MOST_BUDGET) < cost {
+            return Ok((line, Some("no run tells of a budget")));
         }
-        Ok(())
+        part.add_with_budget(cost, &mut line);
+        Ok((line, None))
+    }
+
+    /// The exit frame of a procedure.
+    fn exit(&self, procedure: usize, labels: &Labels<'_, '_>) -> Result<Frame, AllocError> {
+        let visits = visits_of(self.alloc, &self.at_returns, procedure)?;
+        let outline = Outline {
+            slots: Slots::MAX,
+            others: 0,
+            has_guards: labels.plan.container.header().version == 2,
+            parameters: Some(usize::from(labels.plan.parameters(procedure))),
+        };
+        Frame::of(self.alloc, &visits, &outline)
+    }
+
+    /// The frame of a label that has the slots that the label needs.
+    fn needed_frame(&self, label: usize, needs: &Needs) -> Result<Frame, AllocError> {
+        let outline = Outline {
+            slots: needs.at(label),
+            has_guards: true,
+            ..Outline::default()
+        };
+        self.frame(label, &outline)
+    }
+
+    /// The frame of a label.
+    fn frame(&self, label: usize, outline: &Outline) -> Result<Frame, AllocError> {
+        let visits = visits_of(self.alloc, &self.at_labels, label)?;
+        Frame::of(self.alloc, &visits, outline)
     }
 }
 
@@ -193,143 +190,37 @@ pub struct Filled {
     pub notes: String,
 }
 
-/// What is told of the lines with an `auto` that stays.
-#[derive(Drop)]
-struct Left {
-    /// The number of the first one.
-    first: Option<usize>,
-    notes: Report,
-}
-
-/// What a text is filled in from.
-#[derive(Clone, Copy)]
-struct Finding<'x, 'a, 'c> {
-    sightings: &'x Sightings,
-    parts: &'x [Part<'a>],
-    labels: &'x Labels<'a, 'c>,
-    needs: &'x Needs,
-}
-
-impl Finding<'_, '_, '_> {
-    /// The lines in place of the one of this number; none where it stays, and why an `auto` does is told.
-    fn lines_for(
-        &self,
-        number: usize,
-        part: &Part<'_>,
-        left: &mut Left,
-    ) -> Result<Option<String>, AllocError> {
-        let mut lines = Report::new(self.sightings.alloc);
-        let lack = match part.due {
-            None => return Ok(None),
-            Some(Due::Budget) => self.add_budget(part, &mut lines)?,
-            Some(Due::Exit { procedure, .. }) => self.add_exit(procedure, &mut lines)?,
-            Some(Due::Label(label)) => self.add_frame(label, &mut lines)?,
-        };
-        let lines = lines.into_text()?;
-        let Some(why) = lack else {
-            return Ok(Some(lines));
-        };
-        let plan = self.labels.plan;
-        let line = Line {
-            number,
-            bytes: part.line,
-        };
-        left.first = left.first.or(Some(number));
-        left.notes.add_line(plan.file, &line);
-        left.notes.add_note(why);
-        left.notes.add_words(&lines);
-        Ok(None)
-    }
-
-    /// Adds the first line with a budget: the cost of the plan's first frame. Gives why `auto` stays.
-    fn add_budget(
-        &self,
-        part: &Part<'_>,
-        lines: &mut Report,
-    ) -> Result<Option<&'static str>, AllocError> {
-        let cost = self.cost_at_start()?;
-        if cost < 1 || i64::from(MOST_BUDGET) < cost {
-            return Ok(Some("no run tells of a budget"));
-        }
-        part.add_with_budget(cost, lines);
-        Ok(None)
-    }
-
-    /// The cost of the plan's first frame; 0 where none is known.
-    fn cost_at_start(&self) -> Result<i64, AllocError> {
-        if is_due(0, self.parts) {
-            return Ok(match self.sightings.frame(0, self.needs)? {
-                Some(frame) => frame.cost_at_start(),
-                None => 0,
-            });
-        }
-        Ok(match self.labels.plan.frame(0, 0) {
-            Some(frame) => frame.cost().constant,
-            None => 0,
-        })
-    }
-
-    /// Adds the exit frame of a procedure, as far as it is found. Gives why `auto` stays.
-    fn add_exit(
-        &self,
-        procedure: usize,
-        lines: &mut Report,
-    ) -> Result<Option<&'static str>, AllocError> {
-        let plan = self.labels.plan;
-        let has_guards = plan.container.header().version == 2;
-        let frame = self.sightings.exit(procedure, has_guards)?;
-        if let Some(frame) = &frame {
-            frame.add_exit_to(lines, usize::from(plan.parameters(procedure)));
-        }
-        Ok(lack_of(&frame))
-    }
-
-    /// Adds the frame of a label, as far as it is found. Gives why `auto` stays.
-    fn add_frame(
-        &self,
-        label: usize,
-        lines: &mut Report,
-    ) -> Result<Option<&'static str>, AllocError> {
-        let frame = self.sightings.frame(label, self.needs)?;
-        if let Some(frame) = &frame {
-            frame.add_to(lines);
-        }
-        Ok(lack_of(&frame))
-    }
-}
-
-/// Why a frame is not put in place of `auto`; none where it is whole.
-fn lack_of(frame: &Option<Frame>) -> Option<&'static str> {
-    match frame {
-        None => Some("no run comes here"),
-        Some(frame) if frame.is_whole() => None,
-        Some(_) => Some("no frame agrees with all that the runs come here with:"),
-    }
-}
-
-/// Whether `auto` stands in place of the frame of a label.
-fn is_due(label: usize, parts: &[Part<'_>]) -> bool {
-    parts.iter().any(|part| matches!(part.due, Some(Due::Label(other)) if other == label))
-}
-
 /// This many places at which nothing was seen.
 fn nothing_at(alloc: Global, count: usize) -> Result<Vec<Seen>, AllocError> {
-    let mut places = Vec::new(alloc);
-    for _ in 0..count {
-        places.push(Seen {
-            visits: BTreeMap::new(alloc),
-        })?;
-    }
-    Ok(places)
+    (0..count).map(|_| BTreeMap::new(alloc)).collect(alloc)
 }
 
-/// The slots that held a number at each visit.
-pub fn live_slots(visits: &[Visit<'_>]) -> SlotList {
-    let mut live = SlotList::new();
-    for slot in 0..SLOTS {
-        if visits.iter().all(|visit| visit.snapshot.is_live(slot)) {
-            let _ = live.try_push(slot);
+/// Takes a visit of the place of this number.
+fn add_to(
+    places: &mut Vec<Seen>,
+    place: usize,
+    snapshot: Snapshot,
+    cost: u64,
+) -> Result<(), AllocError> {
+    if let Some(seen) = places.get_mut(place) {
+        match seen.get_mut(&snapshot) {
+            Some(most) => *most = cost.max(*most),
+            None => {
+                seen.insert(snapshot, cost)?;
+            }
         }
     }
-    live
+    Ok(())
+}
+
+/// The visits of the place of this number.
+fn visits_of(alloc: Global, places: &[Seen], place: usize) -> Result<Vec<Visit<'_>>, AllocError> {
+    let Some(seen) = places.get(place) else {
+        return Ok(Vec::new(alloc));
+    };
+    let visits = seen.iter().map(|(snapshot, cost)| Visit {
+        snapshot,
+        cost: *cost,
+    });
+    visits.collect(alloc)
 }

@@ -5,7 +5,7 @@ mod grammar;
 mod names;
 
 use before::{Before, Due};
-use burr_lines::{Line, Report, Shown, numbered_line};
+use burr_lines::{Line, Report, Shown, lines_of};
 use burr_text::integer;
 use grammar::{LINES, LineForm};
 use names::{Nearest, mended};
@@ -49,7 +49,9 @@ const MOST_WORDS: usize = 10;
 struct Expectation<'a> {
     alloc: Global,
     file: &'a str,
-    text: &'a [u8],
+    lines: Vec<Line<'a>>,
+    /// Whether the text ends by a line feed.
+    is_ended: bool,
     before: Before<'a>,
     report: Report,
 }
@@ -57,12 +59,13 @@ struct Expectation<'a> {
 impl<'a> Expectation<'a> {
     /// Says what was expected at the line of this number, by a fault of this code.
     fn add(&mut self, code: &str, number: usize) -> Result<(), AllocError> {
-        match numbered_line(self.text, number) {
-            None => self.add_place(None),
-            Some(_) if self.is_unended(number) => self.note("the last line has no line feed"),
+        let is_last = number == self.lines.len();
+        match self.lines.get(number.saturating_sub(1)).copied() {
+            None => self.add_place(b""),
+            Some(_) if is_last && !self.is_ended => self.note("the last line has no line feed"),
             Some(line) => match code {
                 "P2" => return self.add_name(&line),
-                "P4" => self.note(limit_of(line.word(), self.before.word)),
+                "P4" => self.note(limit_of(line.word(0), self.before.word)),
                 _ => return self.add_line(code, &line),
             },
         }
@@ -74,12 +77,6 @@ impl<'a> Expectation<'a> {
         self.report.add_note(note);
     }
 
-    /// Whether the line of this number is the last one, and has no line feed.
-    fn is_unended(&self, number: usize) -> bool {
-        let next = numbered_line(self.text, number.saturating_add(1));
-        next.is_none() && !self.text.ends_with(b"\n")
-    }
-
     /// Says why a line is not of the grammar, out of its ranges, or does not stand there; where a part
     /// of the text is missing before it, its first word alone counts.
     fn add_line(&mut self, code: &str, line: &Line<'a>) -> Result<(), AllocError> {
@@ -89,13 +86,13 @@ impl<'a> Expectation<'a> {
         };
         let words: Vec<&str> = text.split(' ').take(MOST_WORDS).collect(self.alloc)?;
         let is_said = match (LineForm::of(&words, &self.before), code) {
-            (None, _) => self.add_blemish(text)? || self.add_unknown_word(line.word())?,
+            (None, _) => self.add_blemish(text)? || self.add_unknown_word(line.word(0))?,
             (Some(form), "P3") => self.add_misfit(form, &words, true)? || self.add_range(&words),
             (Some(form), "P1") => self.add_blemish(text)? || self.add_misfit(form, &words, false)?,
             _ => false,
         };
         if !is_said {
-            self.add_place(Some(line));
+            self.add_place(line.word(0));
         }
         Ok(())
     }
@@ -190,8 +187,8 @@ impl<'a> Expectation<'a> {
         true
     }
 
-    /// Says what belongs where a line stands, or where the text ends.
-    fn add_place(&mut self, line: Option<&Line<'a>>) {
+    /// Says what belongs where a line with this first word stands, or where the text ends.
+    fn add_place(&mut self, word: &[u8]) {
         let due = self.before.due();
         self.note(format_args!("{due} belongs here"));
         if self.before.is_in_exit() {
@@ -199,8 +196,7 @@ impl<'a> Expectation<'a> {
         } else if self.before.procedures != 0 {
             self.note(FRAME_LINES);
         }
-        let is_piece = line.is_some_and(|line| line.word() == b"at".as_slice());
-        if is_piece || matches!(due, Due::Place(_)) {
+        if word == b"at".as_slice() || matches!(due, Due::Place(_)) {
             self.add_piece_count();
         }
     }
@@ -211,17 +207,44 @@ impl<'a> Expectation<'a> {
         let (Some(head), Some(plan)) = (self.before.head, self.before.plan) else {
             return;
         };
-        let places = places_after(self.text, head.number);
+        let places = self.places_after(&head);
         let pieces = self.before.pieces();
         if places == pieces {
             return;
         }
         self.report.add_line(self.file, &head);
         self.note(format_args!("`at` lines of its frame: {places}, pieces of the plan: {pieces}"));
-        if all_have(self.text, places) {
+        if self.all_have(places) {
             self.report.add_line(self.file, &plan);
             self.note(format_args!("`at` lines of each frame: {places}"));
         }
+    }
+
+    /// How many `at` lines the frame has that begins with this line.
+    fn places_after(&self, head: &Line<'a>) -> usize {
+        let mut places: usize = 0;
+        for line in self.lines.iter().skip(head.number) {
+            match line.word(0) {
+                b"at" => places = places.saturating_add(1),
+                b"label" | b"proc" | b"exit" => break,
+                _ => {}
+            }
+        }
+        places
+    }
+
+    /// Whether each frame of the text has this many `at` lines.
+    fn all_have(&self, count: usize) -> bool {
+        let mut places = count;
+        for line in &self.lines {
+            match line.word(0) {
+                b"at" => places = places.saturating_add(1),
+                b"frame" | b"exit" if places != count => return false,
+                b"frame" | b"exit" => places = 0,
+                _ => {}
+            }
+        }
+        places == count
     }
 }
 
@@ -241,10 +264,7 @@ fn limit_of(word: &[u8], before: &[u8]) -> &'static str {
 
 /// The text of bytes of ASCII.
 fn text_of(bytes: &[u8]) -> Option<&str> {
-    if bytes.is_ascii() {
-        return str::from_utf8(bytes).ok();
-    }
-    None
+    str::from_utf8(bytes).ok().filter(|text| text.is_ascii())
 }
 
 /// Whether two words are numbers, and the first is above the other.
@@ -253,33 +273,6 @@ fn is_above(word: &str, other: &str) -> bool {
         (Some(number), Some(other)) => other < number,
         _ => false,
     }
-}
-
-/// How many `at` lines the frame has that begins with the line of this number.
-fn places_after(text: &[u8], number: usize) -> usize {
-    let mut places: usize = 0;
-    for bytes in text.split(|byte| *byte == b'\n').skip(number) {
-        match (Line { number, bytes }).word() {
-            b"at" => places = places.saturating_add(1),
-            b"label" | b"proc" | b"exit" => break,
-            _ => {}
-        }
-    }
-    places
-}
-
-/// Whether each frame of a text has this many `at` lines.
-fn all_have(text: &[u8], count: usize) -> bool {
-    let mut places = count;
-    for bytes in text.split(|byte| *byte == b'\n') {
-        match (Line { number: 0, bytes }).word() {
-            b"at" => places = places.saturating_add(1),
-            b"frame" | b"exit" if places != count => return false,
-            b"frame" | b"exit" => places = 0,
-            _ => {}
-        }
-    }
-    places == count
 }
 
 /// What was expected at a faulty line of a plan text, as notes: by the code of its fault, as `P1`,
@@ -291,11 +284,13 @@ pub fn expectation_of_line(
     code: &str,
     number: usize,
 ) -> Result<String, AllocError> {
+    let lines = lines_of(alloc, text)?;
     let mut expectation = Expectation {
         alloc,
         file,
-        text,
-        before: Before::of(text, number),
+        before: Before::of(&lines, number),
+        lines,
+        is_ended: text.ends_with(b"\n"),
         report: Report::new(alloc),
     };
     if code.starts_with('P') {

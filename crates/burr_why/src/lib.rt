@@ -12,9 +12,7 @@
 //!   `state_before` and `state_after` give, or of those of a frame.
 #![tactic(auto)]
 
-mod differences;
 mod expected;
-mod meeting;
 mod pieces;
 mod reasons;
 

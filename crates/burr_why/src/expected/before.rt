@@ -1,11 +1,10 @@
 //! What stands in a plan text before a line.
 
 use burr_lines::Line;
-use burr_text::integer;
 use std::fmt;
 
 /// What the lines before a line have that bears on what belongs next. All those lines are right.
-#[derive(Clone, Copy, Drop)]
+#[derive(Clone, Copy, Default, Drop)]
 pub struct Before<'a> {
     /// The first word of the last of them that is not skipped.
     pub word: &'a [u8],
@@ -30,21 +29,11 @@ pub enum Due {
 }
 
 impl<'a> Before<'a> {
-    /// What stands before the line of this number.
-    pub fn of(text: &'a [u8], number: usize) -> Before<'a> {
-        let mut before = Before {
-            word: b"",
-            plan: None,
-            procedure: None,
-            procedures: 0,
-            head: None,
-            results: 0,
-            places: 0,
-        };
-        let lines = text.split(|byte| *byte == b'\n').enumerate();
-        for (place, bytes) in lines.take(number.saturating_sub(1)) {
-            let number = place.saturating_add(1);
-            before.add(Line { number, bytes });
+    /// What stands in these lines before that of a number.
+    pub fn of(lines: &[Line<'a>], number: usize) -> Before<'a> {
+        let mut before = Before::default();
+        for line in lines.iter().take(number.saturating_sub(1)) {
+            before.add(*line);
         }
         before
     }
@@ -54,7 +43,7 @@ impl<'a> Before<'a> {
         if matches!(line.bytes, [] | [b';', ..]) {
             return;
         }
-        self.word = line.word();
+        self.word = line.word(0);
         match self.word {
             b"plan" | b"plan2" => self.plan = Some(line),
             b"proc" => {
@@ -79,9 +68,7 @@ impl<'a> Before<'a> {
             b"plan" => Due::Line("proc NAME 0"),
             b"plan2" => Due::Line("proc NAME 0 0"),
             b"proc" if self.is_in_exit() => Due::Line("exit TRAY SET"),
-            b"exit" | b"result" if self.results < number_in(self.procedure, 3) => {
-                Due::Line("result LO HI")
-            }
+            b"exit" | b"result" if self.results < self.result_count() => Due::Line("result LO HI"),
             b"label" => Due::Line("frame TRAY SET"),
             b"exit" | b"result" | b"cost" => Due::Place(0),
             b"guard" if self.is_in_exit() => Due::Place(0),
@@ -96,10 +83,7 @@ impl<'a> Before<'a> {
     /// Whether a line of an exit frame is the last one, or belongs next.
     pub fn is_in_exit(&self) -> bool {
         match self.head {
-            Some(head) => match self.word {
-                b"proc" => true,
-                _ => head.word() == b"exit".as_slice(),
-            },
+            Some(head) => self.word == b"proc".as_slice() || head.word(0) == b"exit".as_slice(),
             None => false,
         }
     }
@@ -107,23 +91,18 @@ impl<'a> Before<'a> {
     /// Whether procedures of the plan may have results.
     pub fn has_results(&self) -> bool {
         self.plan
-            .is_some_and(|plan| plan.word() == b"plan2".as_slice())
+            .is_some_and(|plan| plan.word(0) == b"plan2".as_slice())
     }
 
     /// How many pieces the plan is for.
     pub fn pieces(&self) -> usize {
-        number_in(self.plan, 2)
+        self.plan.map_or(0, |plan| usize::from(plan.number_in(2)))
     }
-}
 
-/// The number in the word at a place of a line, counted from 0; 0 where there is no such number.
-fn number_in(line: Option<Line<'_>>, place: usize) -> usize {
-    let Some(line) = line else {
-        return 0;
-    };
-    match line.bytes.split(|byte| *byte == b' ').nth(place) {
-        Some(word) => usize::try_from(integer(word).unwrap_or(0)).unwrap_or(0),
-        None => 0,
+    /// How many results the last procedure has.
+    fn result_count(&self) -> usize {
+        self.procedure
+            .map_or(0, |procedure| usize::from(procedure.number_in(3)))
     }
 }
 

@@ -31,8 +31,6 @@ const TRAY: Operand = Operand::Number("TRAY", 0, 31);
 
 const SLOT: Operand = Operand::Number("SLOT", 0, 7);
 
-const NUMBER: Operand = Operand::Number("NUMBER", -32_767, 32_767);
-
 const PARAMETERS: Operand = Operand::Number("PARAMETERS", 0, 4);
 
 const RESULTS: Operand = Operand::Number("RESULTS", 0, 2);
@@ -50,29 +48,21 @@ const TITLE: &[Operand] = &[
 /// The operands of `proc` where procedures have no results.
 const FIRST_VERSION: &[Operand] = &[Operand::Name, PARAMETERS];
 
-const HEAD: &[Operand] = &[TRAY, Operand::Set];
-
-const RANGE: &[Operand] = &[LOW, HIGH];
-
-const FORM: &[Operand] = &[Operand::Form];
-
 const APART: &[Operand] = &[PIECE, Operand::Apart];
-
-const LABELS: &[Operand] = &[Operand::Label; 8];
 
 /// The words with which lines begin, each with those that stand after it where all may.
 pub const LINES: &[(&str, &[Operand])] = &[
     ("plan", TITLE),
     ("plan2", TITLE),
     ("proc", &[Operand::Name, PARAMETERS, RESULTS]),
-    ("exit", HEAD),
-    ("result", RANGE),
+    ("exit", &[TRAY, Operand::Set]),
+    ("result", &[LOW, HIGH]),
     ("label", &[Operand::Name]),
-    ("frame", HEAD),
+    ("frame", &[TRAY, Operand::Set]),
     ("slot", &[SLOT, LOW, HIGH]),
-    ("guard", FORM),
-    ("stack", FORM),
-    ("cost", FORM),
+    ("guard", &[Operand::Form]),
+    ("stack", &[Operand::Form]),
+    ("cost", &[Operand::Form]),
     (
         "at",
         &[PIECE, TRAY, Operand::Form, Operand::Form, Operand::Form],
@@ -82,7 +72,7 @@ pub const LINES: &[(&str, &[Operand])] = &[
     ("aside", &[Operand::Direction, TRAY]),
     ("tray", &[TRAY]),
     ("halt", &[]),
-    ("push", &[NUMBER]),
+    ("push", &[Operand::Number("NUMBER", -32_767, 32_767)]),
     ("load", &[SLOT]),
     ("store", &[SLOT]),
     ("add", &[]),
@@ -90,8 +80,8 @@ pub const LINES: &[(&str, &[Operand])] = &[
     ("drop", &[]),
     ("jump", &[Operand::Label]),
     ("down", &[SLOT, Operand::Label]),
-    ("ask", RANGE),
-    ("pick", LABELS),
+    ("ask", &[LOW, HIGH]),
+    ("pick", &[Operand::Label; 8]),
     ("call", &[Operand::Procedure]),
     ("ret", &[]),
     ("byte", &[Operand::Byte]),
@@ -110,22 +100,19 @@ impl LineForm {
     /// The form that a line with these words has, by the first of them; none where no line begins
     /// so.
     pub fn of(words: &[&str], before: &Before<'_>) -> Option<LineForm> {
-        let word = *words.first()?;
-        for (known, operands) in LINES {
-            if *known == word {
-                let operands = match word {
-                    "proc" if !before.has_results() => FIRST_VERSION,
-                    "at" if is_apart(words) => APART,
-                    _ => *operands,
-                };
-                return Some(LineForm {
-                    word: *known,
-                    operands,
-                    needed: if word == "pick" { 2 } else { operands.len() },
-                });
-            }
-        }
-        None
+        let (word, all) = LINES
+            .iter()
+            .find(|(known, _)| words.first() == Some(known))?;
+        let operands = match *word {
+            "proc" if !before.has_results() => FIRST_VERSION,
+            "at" if is_apart(words) => APART,
+            _ => *all,
+        };
+        Some(LineForm {
+            word: *word,
+            operands,
+            needed: if *word == "pick" { 2 } else { operands.len() },
+        })
     }
 
     /// The place of the first operand that is not of the form, or out of its range where ranges
@@ -176,7 +163,12 @@ impl Operand {
             }
             Operand::Form => is_form(word),
             Operand::Direction => Direction::named(word.as_bytes()).is_some(),
-            Operand::Byte => word.len() == 2 && word.bytes().all(is_digit_of_byte),
+            Operand::Byte => {
+                word.len() == 2
+                    && word
+                        .bytes()
+                        .all(|byte| matches!(byte, b'0'..=b'9' | b'a'..=b'f'))
+            }
             Operand::Apart => word == "apart",
         }
     }
@@ -228,16 +220,6 @@ impl fmt::Display for Operand {
     }
 }
 
-/// Whether a byte is one of the digits of a raw byte of code.
-fn is_digit_of_byte(byte: u8) -> bool {
-    matches!(byte, b'0'..=b'9' | b'a'..=b'f')
-}
-
-/// Whether a character stands before a term of a form.
-fn is_sign(mark: char) -> bool {
-    matches!(mark, '+' | '-')
-}
-
 /// Whether a word is a number without a sign.
 fn is_count(word: &str) -> bool {
     is_number(word.as_bytes()) && !word.starts_with('-')
@@ -257,7 +239,7 @@ fn is_form(word: &str) -> bool {
 /// Whether a part of a form, between a `v` and the next, is a number, a sign and a number that is
 /// not 0.
 fn is_before_slot(part: &str) -> bool {
-    match part.split_once(is_sign) {
+    match part.split_once(|mark| matches!(mark, '+' | '-')) {
         Some((number, factor)) => is_count(number) && is_count(factor) && factor != "0",
         None => false,
     }

@@ -15,7 +15,7 @@ const PROCEDURE: &str = "procedure";
 impl<'a> Expectation<'a> {
     /// Says which name of a line is taken, or has nothing that it names.
     pub(super) fn add_name(&mut self, line: &Line<'a>) -> Result<(), AllocError> {
-        match (line.word(), self.before.procedure) {
+        match (line.word(0), self.before.procedure) {
             (b"label", Some(procedure)) => self.add_taken(line, LABEL, procedure.number),
             (b"proc", _) => self.add_taken(line, PROCEDURE, 0),
             _ => return self.add_unknown(line),
@@ -25,21 +25,19 @@ impl<'a> Expectation<'a> {
 
     /// Names the first line, after those of a number, that gives the same name to such a thing.
     fn add_taken(&mut self, line: &Line<'a>, thing: &str, before: usize) {
-        let name = Shown(line.operand());
-        let lines = self.text.split(|byte| *byte == b'\n').enumerate();
-        for (place, bytes) in lines.skip(before) {
-            let number = place.saturating_add(1);
-            let other = Line { number, bytes };
-            if other.word() == line.word() && other.operand() == line.operand() {
-                self.note(format_args!("the name `{name}` is taken by another {thing}"));
-                return self.report.add_line(self.file, &other);
-            }
+        let (word, name) = (line.word(0), line.word(1));
+        let mut lines = self.lines.iter().skip(before);
+        let same = lines.find(|other| other.word(0) == word && other.word(1) == name);
+        if let Some(other) = same.copied() {
+            let name = Shown(name);
+            self.note(format_args!("the name `{name}` is taken by another {thing}"));
+            self.report.add_line(self.file, &other);
         }
     }
 
     /// Says which of the names in a line of code nothing has.
     fn add_unknown(&mut self, line: &Line<'a>) -> Result<(), AllocError> {
-        let (word, thing) = match line.word() {
+        let (word, thing) = match line.word(0) {
             b"call" => ("proc", PROCEDURE),
             _ => ("label", LABEL),
         };
@@ -49,7 +47,11 @@ impl<'a> Expectation<'a> {
             if is_name(bytes) && !nearest.is_exact() {
                 self.note(format_args!("no {thing} has the name `{name}`"));
                 let elsewhere = format!(in self.alloc; "{word} {name}")?;
-                if self.has_line(elsewhere.as_bytes()) {
+                if self
+                    .lines
+                    .iter()
+                    .any(|other| other.bytes == elsewhere.as_bytes())
+                {
                     self.note("a label of another procedure has it, and is known there alone");
                 } else {
                     self.add_meant(nearest.word());
@@ -60,24 +62,17 @@ impl<'a> Expectation<'a> {
         Ok(())
     }
 
-    /// Whether a line of the text is so.
-    fn has_line(&self, line: &[u8]) -> bool {
-        let mut lines = self.text.split(|byte| *byte == b'\n');
-        lines.any(|other| other == line)
-    }
-
     /// The nearest name of such a thing; of a label in the same procedure.
     fn nearest_to<'w>(&self, name: &'w str, word: &str) -> Result<Nearest<'w, 'a>, AllocError> {
         let mut nearest = Nearest::new(self.alloc, name);
         let mut procedures: usize = 0;
-        for bytes in self.text.split(|byte| *byte == b'\n') {
-            let line = Line { number: 0, bytes };
-            if line.word() == b"proc".as_slice() {
+        for line in &self.lines {
+            if line.word(0) == b"proc".as_slice() {
                 procedures = procedures.saturating_add(1);
             }
             let is_here = word == "proc" || procedures == self.before.procedures;
-            if is_here && line.word() == word.as_bytes() {
-                nearest.offer(text_of(line.operand()).unwrap_or(""))?;
+            if is_here && line.word(0) == word.as_bytes() {
+                nearest.offer(text_of(line.word(1)).unwrap_or(""))?;
             }
         }
         Ok(nearest)

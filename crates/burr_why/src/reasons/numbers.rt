@@ -1,81 +1,36 @@
-//! Operands, slots and numbers.
+//! Operands, slots, numbers and costs; labels, procedures, and the end of a run.
 
-use super::{Reasons, Site};
+use super::{Reasons, Site, label_frame};
 use burr_code::Instr;
-use burr_code::limits::{MOST_NUMBER, MOST_OPERANDS, MOST_PIECES};
-use burr_frames::Rule;
-use burr_lines::{FramePart, PlanItem, Shown, piece_name};
+use burr_code::limits::{MOST_NUMBER, MOST_PIECES, MOST_STATE_GUARDS, SLOTS};
+use burr_forms::limits::{MOST_POINTS, MOST_SYMBOLS};
+use burr_frames::State;
+use burr_lines::{FramePart, PlanPart, Shown};
+use burr_verify::{Refusal, point_of};
 
 impl Reasons<'_, '_> {
-    /// Says which number is missing, too many, not known or too large.
-    pub(super) fn add_bad_number(&mut self, rule: Rule, instruction: &Instr<'_>, site: &Site) {
-        match rule {
-            Rule::MissingOperand => self.add_missing_operand(
-                self.operands_needed(instruction),
-                site,
-            ),
-            Rule::StackFull => self.add_full_stack(site),
-            Rule::NumberRange => self.add_large_number(instruction, site),
-            _ => {
-                if let Some(slot) = slot_of(instruction) {
-                    self.add_bad_slot(rule, slot, site);
-                }
-            }
-        }
-    }
-
-    /// How many operands are there, and how many are needed.
-    fn add_missing_operand(&mut self, needed: u8, site: &Site) {
+    /// How many operands are there, and how many an instruction takes.
+    pub(super) fn add_missing_operand(&mut self, instruction: &Instr<'_>, site: &Site) {
         let count = site.before.operands.len();
-        self.note(format_args!("operands: {count} are there, {needed} are needed"));
-    }
-
-    /// How many operands an instruction takes.
-    fn operands_needed(&self, instruction: &Instr<'_>) -> u8 {
-        match instruction {
+        let needed = match instruction {
             Instr::Add | Instr::Sub => 2,
             Instr::Call(callee) => self.plan.parameters(usize::from(*callee)),
             _ => 1,
-        }
-    }
-
-    /// How many operands are there.
-    fn add_full_stack(&mut self, site: &Site) {
-        let count = site.before.operands.len();
-        self.note(format_args!("operands: {count} are there, with room for {MOST_OPERANDS}"));
-    }
-
-    /// Says what is wrong with a slot.
-    fn add_bad_slot(&mut self, rule: Rule, slot: u8, site: &Site) {
-        match rule {
-            Rule::EmptySlot => self.add_unknown_slot(slot, site),
-            Rule::ParamWritten => self.add_parameter(slot, site),
-            _ => self.add_negative_counter(slot, site),
-        }
+        };
+        self.note(format_args!("operands: {count} are there, {needed} are needed"));
     }
 
     /// The slot that is not known, and the frame that does not tell of it.
-    fn add_unknown_slot(&mut self, slot: u8, site: &Site) {
+    pub(super) fn add_unknown_slot(&mut self, slot: u8, site: &Site) {
         self.note(format_args!("slot {slot} is not known"));
-        let Some(label) = site.label else {
-            return;
-        };
-        self.add_item(PlanItem::Frame {
-            procedure: site.procedure,
-            label,
-            part: FramePart::Head,
-        });
-        self.note(format_args!("this frame has no line of slot {slot}"));
-    }
-
-    /// The slot that is a parameter.
-    fn add_parameter(&mut self, slot: u8, site: &Site) {
-        let name = Shown(self.lines.name_of(PlanItem::Procedure(site.procedure)));
-        self.note(format_args!("slot {slot} is a parameter of {name}"));
+        if site.label.is_some() {
+            self.add_last_part(site, FramePart::Head);
+            self.note(format_args!("this frame has no line of slot {slot}"));
+        }
     }
 
     /// What the counter is, and its range.
-    fn add_negative_counter(&mut self, slot: u8, site: &Site) {
+    pub(super) fn add_negative_counter(&mut self, slot: u8, site: &Site) {
         if let Some(Some(number)) = site.before.slots.get(usize::from(slot)) {
             let number = *number;
             self.note(format_args!("slot {slot} is {number}, and counts down from 0 or more"));
@@ -85,7 +40,7 @@ impl Reasons<'_, '_> {
     }
 
     /// What the result is.
-    fn add_large_number(&mut self, instruction: &Instr<'_>, site: &Site) {
+    pub(super) fn add_large_number(&mut self, instruction: &Instr<'_>, site: &Site) {
         if let [.., lower, upper] = site.before.operands.as_slice() {
             let number = match instruction {
                 Instr::Sub => lower.saturating_sub(*upper),
@@ -95,72 +50,114 @@ impl Reasons<'_, '_> {
         }
         self.add_point(site, &site.before);
     }
-}
 
-/// The slot that an instruction names.
-fn slot_of(instruction: &Instr<'_>) -> Option<u8> {
-    match instruction {
-        Instr::Load(slot) | Instr::Store(slot) | Instr::Down(slot, _) => Some(*slot),
-        _ => None,
-    }
-}
-
-// Labels, procedures, and the end of a run.
-
-impl Reasons<'_, '_> {
-    /// Says where control can't go.
-    pub(super) fn add_bad_control(&mut self, rule: Rule, instruction: &Instr<'_>, site: &Site) {
-        match (rule, instruction) {
-            (Rule::BadCall, Instr::Call(callee)) => self.add_bad_callee(usize::from(*callee), site),
-            (Rule::NotApart, _) => self.add_pieces_together(site),
-            _ => self.note("the procedure has no label of this number"),
+    /// Names the label that stands inside an instruction.
+    pub(super) fn add_label_inside(&mut self, instruction: &Instr<'_>, site: &Site) {
+        self.note("this instruction has a label inside, after its first byte");
+        let procedure = site.procedure;
+        let last = usize::from(site.pc).saturating_add(instruction.size().saturating_sub(1));
+        if let Some(label) = self.plan.label_before(procedure, last) {
+            self.add_part(PlanPart::Label { procedure, label });
         }
     }
 
     /// Why a procedure may not be called here.
-    fn add_bad_callee(&mut self, callee: usize, site: &Site) {
+    pub(super) fn add_bad_callee(&mut self, callee: usize, site: &Site) {
         if self.plan.container.proc_count() <= callee {
             return self.note(format_args!("there is no procedure {callee}"));
         }
-        self.add_late_caller(site);
-        self.add_item(PlanItem::Procedure(callee));
-    }
-
-    /// Notes that a procedure calls one that does not stand after it.
-    fn add_late_caller(&mut self, site: &Site) {
-        let caller = Shown(self.lines.name_of(PlanItem::Procedure(site.procedure)));
+        let caller = Shown(self.lines.name_of(PlanPart::Procedure(site.procedure)));
         self.note(format_args!("{caller} calls only procedures that stand after it"));
+        self.add_part(PlanPart::Procedure(callee));
     }
 
     /// The pieces that are not apart.
-    fn add_pieces_together(&mut self, site: &Site) {
+    pub(super) fn add_pieces_together(&mut self, site: &Site) {
         for piece in 0..MOST_PIECES as u8 {
             if let Some(tray) = site.before.place(piece).tray() {
-                let name = piece_name(self.plan.assembly, piece);
+                let name = self.plan.piece_name(piece);
                 self.note(format_args!("{name} is in tray {tray}, and not apart"));
             }
         }
     }
+}
 
-    /// Says what is wrong with the code itself.
-    pub(super) fn add_bad_code(&mut self, rule: Rule, site: &Site) {
-        let fault = match rule {
-            Rule::BadCode => "no instruction begins with these bytes",
-            Rule::BadLabel => return self.add_label_inside(site),
-            Rule::MissingFrame => {
-                "nothing goes on to here: a label with its frame has to stand before, or nothing"
-            }
-            _ => "the code ends here, and this instruction goes on after it",
-        };
-        self.note(fault);
+// Costs, and what is too much to be judged.
+
+impl Reasons<'_, '_> {
+    /// How many steps are left, and how many are needed.
+    pub(super) fn add_want_of_cost(&mut self, instruction: &Instr<'_>, site: &Site) {
+        let left = site.before.cost;
+        let needed = self.needed(instruction, site);
+        self.note(format_args!("cost {left} is left, {needed} is needed"));
+        self.add_point(site, &site.before);
+        if let Instr::Call(callee) = instruction {
+            self.add_frame_line(label_frame(usize::from(*callee), 0), FramePart::Cost);
+            self.note("a call takes 1 more than this");
+        }
+        self.add_last_part(site, FramePart::Cost);
     }
 
-    /// Names the label that stands inside an instruction.
-    fn add_label_inside(&mut self, site: &Site) {
-        self.note("this instruction has a label inside, after its first byte");
-        let last = site.end.saturating_sub(1);
-        if let Some(label) = self.plan.label_before(site.procedure, last) {
-            self.add_item(site.label_item(label));
+    /// How many steps an instruction needs: one, and those of a procedure that it calls.
+    fn needed(&self, instruction: &Instr<'_>, site: &Site) -> i64 {
+        let Instr::Call(callee) = instruction else {
+            return 1;
+        };
+        let callee = usize::from(*callee);
+        let arguments = point_of(&site.before.arguments(self.plan.parameters(callee)));
+        match self.plan.frame(callee, 0) {
+            Some(entry) => entry.cost().value_at(&arguments).saturating_add(1),
+            None => 1,
         }
+    }
+
+    /// What would be one too many.
+    pub(super) fn add_too_many(&mut self, instruction: &Instr<'_>, site: &Site) {
+        match instruction {
+            Instr::Ask(low, high) if site.before.symbols.len() < MOST_SYMBOLS => {
+                let (low, high) = (*low, *high);
+                self.note(format_args!(
+                    "with {low} to {high} the open numbers have more than {MOST_POINTS} points"
+                ));
+            }
+            Instr::Ask(..) => self.note(format_args!(
+                "{MOST_SYMBOLS} numbers are open, and the answer is one more"
+            )),
+            Instr::Down(..) => self.note(format_args!(
+                "{MOST_STATE_GUARDS} guards are there, and this makes one more"
+            )),
+            _ => self.note("its results make too many open numbers, guards or points"),
+        }
+    }
+
+    /// Says how many points the ranges of a frame have, where a label is at the place that a refusal
+    /// names and they are too many; else what is too much at the place.
+    pub(super) fn add_large_state(&mut self, refusal: &Refusal) {
+        let (procedure, pc) = (usize::from(refusal.proc), usize::from(refusal.pc));
+        let Some((label, points)) = self.wide_label(procedure, pc) else {
+            return self.add_at_site(refusal);
+        };
+        self.add_part(PlanPart::Label { procedure, label });
+        self.note(format_args!(
+            "its slots have {points} points together, and {MOST_POINTS} are the most"
+        ));
+        for v in 0..SLOTS as u8 {
+            let frame = label_frame(procedure, label);
+            if let Some(line) = self.lines.line_in(frame, FramePart::Slot(v)) {
+                self.report.add_line(self.plan.file, &line);
+            }
+        }
+    }
+
+    /// The label at a place of the code, and how many points the ranges of its frame have together,
+    /// guards not counted; none where no label is there, or they are not too many.
+    #[inline(never)]
+    fn wide_label(&self, procedure: usize, pc: usize) -> Option<(usize, u64)> {
+        let label = self.plan.label_at(procedure, pc)?;
+        let state = State::of(&self.plan.frame(procedure, label)?);
+        let points = state.ranges().iter().fold(1u64, |points, (low, high)| {
+            points.saturating_mul(u64::from(high.abs_diff(*low)).saturating_add(1))
+        });
+        (u64::from(MOST_POINTS) < points).then_some((label, points))
     }
 }
