@@ -2,6 +2,7 @@
 use Rattle.std.proofs.Common.{◌≡◌, ℕ, ◌≤◌, List, [], ◌∷◌, ◌++◌, length, map, Bool, true, false, not, Option, Some, None, refl, sym, ap, subst, ◌∙◌, arith}
 use Rattle.std.specs.Prelude.{◌&&◌, ◌==◌, nat_lt, Result, Ok, Err, MatchResult}
 use Rattle.std.proofs.lemmas.Bool.{and_parts, both_ways, not-true, ltb-true, ltb-false, lt-ltb, eq-eqb, ne_eqb}
+use Rattle.std.proofs.lemmas.Bool.Decides.{nat_tests}
 use Rattle.std.proofs.lemmas.List.{length-map, map-append}
 use Rattle.burr_code.specs.declared.limits.TheConstants.{MOST_GUARDS}
 use Rattle.burr_container.specs.Rules.Plans.{ExitFrame, exit_symbols}
@@ -11,29 +12,17 @@ use Rattle.burr_plantext.specs.Rules.Sources.{ExitSource}
 use Rattle.burr_plantext.specs.Rules.Meaning.{range_in, place_in, result_count}
 use Rattle.burr_plantext.specs.Rules.Checks.{FaultKind, P1, P3, P4, unless, is_empty, piece_check, exit_live, result_check, exit_guard_check, exit_piece_check}
 use Rattle.burr_asm.specs.declared.fault.AsmFault.{AsmFault}
-use Rattle.burr_asm.specs.declared.text.front.Version.{Version}
-use Rattle.burr_asm.specs.declared.text.front.Version.TheVariants.{One, Two}
 use Rattle.burr_asm.specs.declared.text.exit.Exit.{Exit}
-use Rattle.burr_asm.specs.Views.Versions.{number_of_version}
 use Rattle.burr_asm.specs.Views.Faults.{IsRefusal}
 use Rattle.burr_asm.specs.Views.Frames.{form_check}
-use Rattle.burr_asm.specs.Views.Exits.{IsExitFor, is_second}
+use Rattle.burr_asm.specs.Views.Exits.{IsExitFor}
 use Rattle.burr_asm.specs.Views.ExitFrames.{AddsExitGuard, AddsExitPiece, with_pieces}
 use Rattle.burr_asm.proofs.Refusals.{failed, passed}
 use Rattle.burr_asm.proofs.FrameParts.{empty_map}
 
--- only the second version has the number 2
-second_is : (v : Version) → is_second v ≡ (number_of_version v == 2)
-second_is One = refl
-second_is Two = refl
-
 -- a number that is at most `most` equals it just where it isn't below it
 all_there : (n most : ℕ) → n ≤ most → (n == most) ≡ not (nat_lt n most)
-all_there n most few = by (nat_lt n most) refl
-  where
-    by : (t : Bool) → nat_lt n most ≡ t → (n == most) ≡ not t
-    by true e = ne_eqb n most (λ same. omega (arith, ltb-true n most e, same))
-    by false e = eq-eqb n most (omega (arith, ltb-false n most e, few))
+all_there n most few = grind (arith, nat_tests, few)
 
 swapped : (x y z : Bool) → (x && y && z) ≡ (x && z && y)
 swapped true true true = refl
@@ -79,9 +68,9 @@ module _ (x : Exit) (version : ℕ) (h : ProcedureWords) (e : ExitSource) (is : 
 
   -- Guards
 
-  taken_is : (is_second x.signature.version && not lacks && is_empty x.frame.places) ≡ ((version == 2) && is_empty e.pieces && (length e.results == result_count h.results))
+  taken_is : ((x.signature.version == 2) && not lacks && is_empty x.frame.places) ≡ ((version == 2) && is_empty e.pieces && (length e.results == result_count h.results))
   taken_is =
-      (λ i. second_is x.signature.version i && sym whole_is i && is_empty ((is.frame i).places))
+      (λ i. (x.signature.version == 2) && sym whole_is i && is_empty ((is.frame i).places))
       ∙ (λ i. (is.signature.version_is i == 2) && (length e.results == result_count h.results) && empty_map (λ (p : PieceWords). place_in p.spot) e.pieces i)
       ∙ swapped (version == 2) (length e.results == result_count h.results) (is_empty e.pieces)
 
@@ -89,27 +78,27 @@ module _ (x : Exit) (version : ℕ) (h : ProcedureWords) (e : ExitSource) (is : 
   live_is live live_so = live_so ∙ (λ i. exit_symbols (is.signature.parameters i) (is.signature.results i))
 
   -- no guard may stand here
-  pub late_guard : (word : List ℕ) (test : Bool) → test ≡ (is_second x.signature.version && not lacks && is_empty x.frame.places) → test ≡ false → exit_guard_check version h e word ≡ Some P1
+  pub late_guard : (word : List ℕ) (test : Bool) → test ≡ ((x.signature.version == 2) && not lacks && is_empty x.frame.places) → test ≡ false → exit_guard_check version h e word ≡ Some P1
   late_guard word test test_is no_more = failed _ P1 (unless (is_form_over (exit_live h) word) P3 (unless (nat_lt (length e.guards) MOST_GUARDS) P4 None)) (sym taken_is ∙ sym test_is ∙ no_more)
 
   same_guards : length x.frame.guards ≡ length e.guards
   same_guards = ap (λ (f : ExitFrame). length f.guards) is.frame ∙ length-map e.guards form_in
 
   guard_checked : (live : List Bool) (word : List ℕ) (test : Bool) → live ≡ exit_symbols x.signature.parameters x.signature.results
-      → test ≡ (is_second x.signature.version && not lacks && is_empty x.frame.places) → test ≡ true → form_check MOST_GUARDS live x.frame.guards word ≡ exit_guard_check version h e word
+      → test ≡ ((x.signature.version == 2) && not lacks && is_empty x.frame.places) → test ≡ true → form_check MOST_GUARDS live x.frame.guards word ≡ exit_guard_check version h e word
   guard_checked live word test live_so test_is more =
       (λ i. unless (is_form_over (live_is live live_so i) word) P3 (unless (nat_lt (same_guards i) MOST_GUARDS) P4 None))
       ∙ sym (passed _ P1 (unless (is_form_over (exit_live h) word) P3 (unless (nat_lt (length e.guards) MOST_GUARDS) P4 None)) (sym taken_is ∙ sym test_is ∙ more))
 
   -- A guard more, or its refusal.
   pub guard_added : {A : Type 0} (live : List Bool) (word : List ℕ) (line : ℕ) (test : Bool) (new : ExitFrame) (result : Result A AsmFault)
-      → live ≡ exit_symbols x.signature.parameters x.signature.results → test ≡ (is_second x.signature.version && not lacks && is_empty x.frame.places) → test ≡ true
+      → live ≡ exit_symbols x.signature.parameters x.signature.results → test ≡ ((x.signature.version == 2) && not lacks && is_empty x.frame.places) → test ≡ true
       → AddsExitGuard live x.frame word line new result
       → MatchResult result (λ done. (exit_guard_check version h e word ≡ None) × IsExitFor (record x { frame = new }) version h (record e { guards = e.guards ++ word ∷ [] }))
       (IsRefusal (exit_guard_check version h e word) line)
   guard_added live word line test new (Ok done) live_so test_is more p =
-      let tests = and_parts (is_second x.signature.version && not lacks) (is_empty x.frame.places) (sym test_is ∙ more) in
-      let full = and_parts (is_second x.signature.version) (not lacks) tests.0 in
+      let tests = and_parts ((x.signature.version == 2) && not lacks) (is_empty x.frame.places) (sym test_is ∙ more) in
+      let full = and_parts (x.signature.version == 2) (not lacks) tests.0 in
       let put : x.frame.guards ++ form_in word ∷ [] ≡ map form_in (e.guards ++ word ∷ []) = (λ i. (is.frame i).guards ++ form_in word ∷ []) ∙ sym (map-append form_in e.guards (word ∷ [])) in (
         sym (guard_checked live word test live_so test_is more) ∙ p.0,
         record {

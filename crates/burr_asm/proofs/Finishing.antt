@@ -2,6 +2,7 @@
 use Rattle.std.proofs.Common.{◌≡◌, inl, inr, ℕ, suc, ◌+◌, List, map, refl, sym, ap, ◌∙◌, arith}
 use Rattle.std.specs.Prelude.{Option, Some, None, Result, Ok, Err, MatchResult}
 use Rattle.std.specs.List.{flat_map}
+use Rattle.std.proofs.lemmas.Option.{none-some}
 use Rattle.burr_container.specs.Rules.Plans.{Plan}
 use Rattle.burr_plantext.specs.Rules.Lines.{PlanWords}
 use Rattle.burr_plantext.specs.Rules.Sources.{ProcedureSource, PlanSource}
@@ -46,14 +47,8 @@ module _ (number : ℕ → ℕ) (o : OutlineParts) (title : PlanWords) (ps : Lis
       by : (f : Option ℕ) → found ≡ f → (result : Result Plan AsmFault) → MatchResult result (λ plan. (unknown_line o ≡ None) × (plan ≡ plan_of_outline o)) (IsUnknown (unknown_line o)) → IsPlanOf number (named (source_of title ps)) result
       by None e (Ok plan) told = (source_of title ps, ap (λ (f : Option ℕ). with_known_names (source_of title ps) (one_later f)) e, told.1 ∙ plan_is)
       by None e (Err at) (inl memory) = inl memory
-      by None e (Err at) (inr (line, is, told)) = absurd (never (sym (unknown_is ∙ ap (placed number 1) e) ∙ is))
-        where
-          never : ◌≡◌ {A = Option ℕ} None (Some line) → ⊥
-          never e = cc
-      by (Some k) e (Ok plan) told = absurd (never (sym told.0 ∙ unknown_is ∙ ap (placed number 1) e))
-        where
-          never : ◌≡◌ {A = Option ℕ} None (Some (number (1 + k))) → ⊥
-          never e = cc
+      by None e (Err at) (inr (line, is, told)) = absurd (none-some line (sym (unknown_is ∙ ap (placed number 1) e) ∙ is))
+      by (Some k) e (Ok plan) told = absurd (none-some (number (1 + k)) (sym told.0 ∙ unknown_is ∙ ap (placed number 1) e))
       by (Some k) e (Err at) (inl memory) = inl memory
       by (Some k) e (Err at) (inr (line, is, told)) =
           inr ((P2, suc k), ap (λ (f : Option ℕ). with_known_names (source_of title ps) (one_later f)) e, told ∙ ap fault.P2 (same (sym is ∙ unknown_is ∙ ap (placed number 1) e)))

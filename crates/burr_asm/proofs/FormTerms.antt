@@ -4,7 +4,7 @@ use Rattle.std.specs.Prelude.{◌&&◌, nat_le, int_le, slice_index_or, if◌the
 use Rattle.std.specs.Bool.{then_some}
 use Rattle.std.specs.List.{list_all}
 use Rattle.std.specs.Str.Parse.{starts_with_minus}
-use Rattle.std.proofs.lemmas.Bool.{and_parts, and_from, true≢false, and_right, ltb-false}
+use Rattle.std.proofs.lemmas.Bool.{and_parts, and_from, true≢false, and_right, ltb-false, ne_eqb}
 use Rattle.std.proofs.lemmas.Int.{ints}
 use Rattle.std.proofs.lemmas.List.{get_or-set_same, get_or-set_other, get_or_past, length-set, take_rest}
 use Rattle.burr_code.specs.declared.limits.TheConstants.{SLOTS}
@@ -14,6 +14,7 @@ use Rattle.burr_plantext.specs.Rules.Written.{pieces, is_count, natural_in, numb
 use Rattle.burr_plantext.specs.Rules.Checks.{is_empty}
 use Rattle.burr_plantext.proofs.Common.Forms.{le_of_test}
 use Rattle.burr_asm.proofs.FormWords.{natural_no_minus}
+use Rattle.burr_asm.proofs.Numbers.{found_if}
 use Rattle.burr_asm.specs.Views.Forms.{begins_term, terms_of, IsConstantCut, IsConstantEnd, IsTermCut, is_live_slot, IsLiveSlot}
 
 -- Numbers of a width
@@ -104,15 +105,8 @@ none_below live least slot c [] h below = refl
 none_below live least slot c (term ∷ terms) h below =
     let k = term_over live least term terms h in
     let low = k.low in
-    ap (λ (t : Bool). if t then number_in (coefficient_word term) else coefficient_or slot c terms) (differs (natural_in (slot_word term)) (omega (arith, low, below)))
+    ap (λ (t : Bool). if t then number_in (coefficient_word term) else coefficient_or slot c terms) (ne_eqb (natural_in (slot_word term)) slot (λ e. omega (arith, e, low, below)))
     ∙ none_below live (suc (natural_in (slot_word term))) slot c terms k.others (omega (arith, low, below))
-  where
-    differs : (n : ℕ) → slot < n → (n == slot) ≡ false
-    differs n low = by (n == slot) refl
-      where
-        by : (t : Bool) → (n == slot) ≡ t → (n == slot) ≡ false
-        by true e = absurd (let same = eqb-true n slot e in omega (arith, same, low))
-        by false e = e
 
 slot_within : (live : List Bool) (n : ℕ) → slice_index_or live n false ≡ true → n < length live
 slot_within [] n h = absurd (true≢false (sym h ∙ get_or_past [] n false (omega arith)))
@@ -179,10 +173,6 @@ pub record IsFormWalk (live : List Bool) (word : List ℕ) (coefs : List ℤ) (l
   pub test : are_terms live 0 (term_words word) ≡ are_terms live least (terms_of rest)
   pub value : filled zeros (term_words word) ≡ filled coefs (terms_of rest)
 
-and-false : (t : Bool) → (t && false) ≡ false
-and-false true = refl
-and-false false = refl
-
 -- Bytes that begin with a constant are a form if the rest, as the code takes it, are terms.
 pub form_tested : (word : List ℕ) (end : ℕ) (test : Bool) → is_number (constant_word word) ≡ true → IsConstantEnd word end
     → test ≡ list_all is_term (terms_of (take (length word - end) (drop end word))) → is_form word ≡ test
@@ -201,9 +191,7 @@ form_begins live word constant terms h cut = record {
 
 -- where its terms fail, or its constant, it is no form over live slots
 pub terms_fail : (live : List Bool) (word : List ℕ) → are_terms live 0 (term_words word) ≡ false → is_form_over live word ≡ false
-terms_fail live word fails =
-    ap (λ (t : Bool). is_between (neg_ℤ (pos 2147483648)) (pos 2147483647) (number_in (constant_word word)) && t) fails
-    ∙ and-false (is_between (neg_ℤ (pos 2147483648)) (pos 2147483647) (number_in (constant_word word)))
+terms_fail live word fails = and_right (is_between (neg_ℤ (pos 2147483648)) (pos 2147483647) (number_in (constant_word word))) (are_terms live 0 (term_words word)) fails
 
 pub constant_fails : (live : List Bool) (word constant : List ℕ) → constant ≡ constant_word word → ¬ FitsSigned w32 (number_in constant) → is_form_over live word ≡ false
 constant_fails live word constant same fails =
@@ -241,7 +229,7 @@ module _ (live : List Bool) (word : List ℕ) (coefs : List ℤ) (least : ℕ) (
       terms_fail live word
       (test_here
       ∙ ap (λ (t : Bool). nat_le least (natural_in slot) && slice_index_or live (natural_in slot) false && t && are_terms live (suc (natural_in slot)) (terms_of more)) (not_of_16_bits (number_in coefficient) fails)
-      ∙ ap (λ (t : Bool). t && are_terms live (suc (natural_in slot)) (terms_of more)) (and-false (nat_le least (natural_in slot) && slice_index_or live (natural_in slot) false)))
+      ∙ ap (λ (t : Bool). t && are_terms live (suc (natural_in slot)) (terms_of more)) (and_right (nat_le least (natural_in slot) && slice_index_or live (natural_in slot) false) false refl))
 
   -- a term more
   pub form_goes_on : (n : ℕ) (c : ℤ) → is_live_slot live least slot ≡ true → n ≡ natural_in slot → FitsSigned w16 (number_in coefficient) → c ≡ number_in coefficient
@@ -292,11 +280,8 @@ no_live_slot live least word long e = by (not (starts_with_minus word)) e
 
 -- a slot's number that was read is tested
 pub found_live_slot : (live : List Bool) (least n : ℕ) (word : List ℕ) (test : Bool) → is_below SLOTS word ≡ true → n ≡ natural_in word → test ≡ (nat_le least n && slice_index_or live n false) → IsLiveSlot live least word (then_some test n)
-found_live_slot live least n word test below is e = by test ((λ i. natural i && nat_le least (sym is i) && slice_index_or live (sym is i) false) ∙ sym e)
+found_live_slot live least n word test below is e =
+    found_if test (is_live_slot live least word) n (λ m. m ≡ natural_in word) ((λ i. natural i && nat_le least (sym is i) && slice_index_or live (sym is i) false) ∙ sym e) is
   where
     natural : not (starts_with_minus word) ≡ true
     natural = (and_parts (not (starts_with_minus word)) (nat_lt (natural_in word) SLOTS) below).0
-
-    by : (t : Bool) → is_live_slot live least word ≡ t → IsLiveSlot live least word (then_some t n)
-    by true e = (e, is)
-    by false e = e

@@ -4,7 +4,7 @@ use Rattle.std.specs.Prelude.{◌&&◌, ◌||◌, codes, nat_le, nat_lt, slice_i
 use Rattle.std.specs.List.{list_all, position, position_or_len}
 use Rattle.std.specs.Str.{bytes_eq}
 use Rattle.std.specs.Str.Parse.{digits_value, starts_with_minus, without_leading_plus}
-use Rattle.std.proofs.lemmas.Bool.{and_parts, and_from, true≢false}
+use Rattle.std.proofs.lemmas.Bool.{and_parts, and_from, true≢false, not-true, eqb-false, false_from_ne_true}
 use Rattle.std.proofs.lemmas.List.Sums.{prefix_len-le-length}
 use Rattle.std.proofs.lemmas.Option.{none-some}
 use Rattle.std.proofs.lemmas.Slice.Eq.{bytes_eq-Decides}
@@ -33,16 +33,9 @@ pub record IsCutAtSign (bytes front rest : List ℕ) : Type 0 where
   pub first : IsTrue (list_all is_unsigned front)
   pub begins : IsTrue (begins_term rest)
 
-unsigned_byte : (b : ℕ) → IsTrue (is_unsigned b) → is_sign b ≡ false
-unsigned_byte b h = by (is_sign b) h
-  where
-    by : (t : Bool) → not t ≡ true → t ≡ false
-    by true h = sym h
-    by false h = refl
-
 has_no_sign : (bytes : List ℕ) → IsTrue (list_all is_unsigned bytes) → HasNoSign bytes
 has_no_sign [] h = tt
-has_no_sign (b ∷ bytes) h = let parts = and_parts (is_unsigned b) (list_all is_unsigned bytes) h in (unsigned_byte b parts.0, has_no_sign bytes parts.1)
+has_no_sign (b ∷ bytes) h = let parts = and_parts (is_unsigned b) (list_all is_unsigned bytes) h in (not-true (is_sign b) parts.0, has_no_sign bytes parts.1)
 
 begins : (bytes : List ℕ) → IsTrue (begins_term bytes) → BeginsTerm bytes
 begins [] h = tt
@@ -192,14 +185,8 @@ find_byte c (x ∷ w) = by (x == c) refl (find_byte c w)
   where
     by : (t : Bool) → (x == c) ≡ t → Lacks c w ⊎ ((a : List ℕ) × (b : List ℕ) × (w ≡ a ++ (c ∷ b)) × Lacks c a) → Lacks c (x ∷ w) ⊎ ((a : List ℕ) × (b : List ℕ) × (x ∷ w ≡ a ++ (c ∷ b)) × Lacks c a)
     by true e k = inr ([], w, ap (λ (y : ℕ). y ∷ w) (eqb-true x c e), tt)
-    by false e (inl k) = inl (differ, k)
-      where
-        differ : x ≢ c
-        differ f = true≢false (sym (eq-eqb x c f) ∙ e)
-    by false e (inr k) = inr (x ∷ k.0, k.1, ap (λ (v : List ℕ). x ∷ v) k.2, (differ, k.3))
-      where
-        differ : x ≢ c
-        differ f = true≢false (sym (eq-eqb x c f) ∙ e)
+    by false e (inl k) = inl (eqb-false x c e, k)
+    by false e (inr k) = inr (x ∷ k.0, k.1, ap (λ (v : List ℕ). x ∷ v) k.2, (eqb-false x c e, k.3))
 
 -- two pieces are cut at the byte
 two_pieces : (c : ℕ) (w : List ℕ) → length (pieces c w) ≡ 2 → (a : List ℕ) × (b : List ℕ) × (w ≡ a ++ (c ∷ b)) × (pieces c w ≡ a ∷ b ∷ [])
@@ -217,7 +204,7 @@ two_pieces c w two = by (find_byte c w)
     by (inr k) = after k.0 k.1 k.2 k.3 (find_byte c k.1)
 
 -- the parts of what passes the test of a term
-term_cut_up : (sign : ℕ) (front rest : List ℕ) → is_sign sign ≡ true → BeginsTerm rest → IsTrue (is_term (sign ∷ front)) → (digits : List ℕ) × (slot : List ℕ) × HasTerm sign digits slot rest (sign ∷ (front ++ rest))
+pub term_cut_up : (sign : ℕ) (front rest : List ℕ) → is_sign sign ≡ true → BeginsTerm rest → IsTrue (is_term (sign ∷ front)) → (digits : List ℕ) × (slot : List ℕ) × HasTerm sign digits slot rest (sign ∷ (front ++ rest))
 term_cut_up sign front rest is more h =
     let tests = and_parts ((length (pieces 118 (sign ∷ front)) == 2) && is_count (drop 1 (coefficient_word (sign ∷ front)))) (is_natural (slot_word (sign ∷ front))) h in
     let first = and_parts (length (pieces 118 (sign ∷ front)) == 2) (is_count (drop 1 (coefficient_word (sign ∷ front)))) tests.0 in
@@ -253,11 +240,7 @@ term_found b bytes is h =
 
 pub no_term : (bytes : List ℕ) → IsTrue (begins_term bytes) → ((sign : ℕ) (digits slot rest : List ℕ) → HasTerm sign digits slot rest bytes → ⊥) → list_all is_term (terms_of bytes) ≡ is_empty bytes
 no_term [] h none = refl
-no_term (b ∷ bytes) h none = by (list_all is_term (terms_of (b ∷ bytes))) refl
-  where
-    by : (t : Bool) → list_all is_term (terms_of (b ∷ bytes)) ≡ t → list_all is_term (terms_of (b ∷ bytes)) ≡ false
-    by false e = e
-    by true e = let k = term_found b bytes h e in absurd (none b k.0 k.1 k.2 k.3)
+no_term (b ∷ bytes) h none = false_from_ne_true (list_all is_term (terms_of (b ∷ bytes))) (λ e. let k = term_found b bytes h e in none b k.0 k.1 k.2 k.3)
 
 -- A term as the code reads it
 
@@ -267,11 +250,7 @@ plain_coefficient sign digits = if sign == 43 then digits else sign ∷ digits
 
 module _ (sign : ℕ) (digits slot rest bytes : List ℕ) (h : HasTerm sign digits slot rest bytes) where
   pub term_unplussed : without_leading_plus bytes ≡ plain_coefficient sign digits ++ (118 ∷ (slot ++ rest))
-  term_unplussed = ap without_leading_plus h.parts ∙ by (sign == 43)
-    where
-      by : (t : Bool) → drop (cond t 1 0) (sign ∷ (digits ++ (118 ∷ (slot ++ rest)))) ≡ (if t then digits else sign ∷ digits) ++ (118 ∷ (slot ++ rest))
-      by true = refl
-      by false = refl
+  term_unplussed = ap without_leading_plus h.parts ∙ grind arith
 
   pub plain_lacks : Lacks 118 (plain_coefficient sign digits)
   plain_lacks = by (sign == 43)
@@ -342,15 +321,9 @@ module _ (bytes : List ℕ) (h : IsTrue (begins_term bytes)) where
 number_plus : (w : List ℕ) → IsTrue (is_count w) → number_in w ≡ number_in (43 ∷ w)
 number_plus w h =
     let k = (number_written w (count_number w h)).2 in
-    let none = no_minus_first w h in
+    let none = natural_no_minus w (or_right (bytes_eq w (codes "0")) (is_count w) h) in
     ap (λ (t : Bool). let rest : List ℕ = cond t (drop 1 w) (without_leading_plus w) in cond t (neg_ℤ (pos (digits_value 10 rest))) (pos (digits_value 10 rest))) none
     ∙ ap (λ (v : List ℕ). pos (digits_value 10 v)) k.plus
-  where
-    no_minus_first : (w : List ℕ) → IsTrue (is_count w) → starts_with_minus w ≡ false
-    no_minus_first [] h = refl
-    no_minus_first (c ∷ w) h =
-        let low = leb-true 49 c (and_parts (nat_le 49 c) (nat_le c 57) (and_parts (nat_le 49 c && nat_le c 57) (list_all is_digit w) h).0).0 in
-        ne_eqb c 45 (λ e. omega (arith, low, e))
 
 -- a number that begins with a digit other than 0
 count_of_digit : (w : List ℕ) → IsTrue (nat_le 49 (slice_index w 0)) → IsTrue (is_number w) → IsTrue (is_count w)
@@ -446,10 +419,7 @@ term_is_cut bytes number coefficient after slot rest signed_is e cut_v cut_sign 
   where
     shorter : (sign : ℕ) (digits : List ℕ) → HasTerm sign digits slot rest bytes → length rest < length bytes
     shorter sign digits h =
-        let all = ap (λ (w : List ℕ). length w) h.parts in
-        let one = length-append digits (118 ∷ (slot ++ rest)) in
-        let two = length-append slot rest in
-        omega (arith, all, one, two)
+        omega (arith, ap (λ (w : List ℕ). length w) h.parts, length-append digits (118 ∷ (slot ++ rest)), length-append slot rest)
 
 -- Constants
 

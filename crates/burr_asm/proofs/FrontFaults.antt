@@ -1,5 +1,5 @@
 -- The fault of a line that is of no form, or isn't ended, and of a line where another one is due.
-use Rattle.std.proofs.Common.{◌≡◌, ℕ, Bool, true, false, not, Ok, Err, List, refl, sym, ap, ◌∙◌}
+use Rattle.std.proofs.Common.{◌≡◌, ℕ, Bool, true, false, not, Ok, Err, List, refl, sym, ap, ◌∙◌, arith}
 use Rattle.std.specs.Prelude.{codes, if◌then◌else◌}
 use Rattle.std.specs.Str.{bytes_eq}
 use Rattle.std.proofs.lemmas.Bool.{false≢true}
@@ -25,10 +25,6 @@ use Rattle.burr_asm.specs.Views.FrontSteps.{misses, GivesFault, GivesNext}
 abbrev pub missing : Bool → FaultKind
 missing m = if m then P5 else P1
 
-turned : (t : Bool) → (if t then P1 else P5) ≡ missing (not t)
-turned true = refl
-turned false = refl
-
 placed : (place : ℕ) (given kind : FaultKind) → given ≡ kind
     → ◌≡◌ {A = LineResult} (Err (given, place)) (Err (kind, place))
 placed place given kind e = ap (λ (k : FaultKind). Err (k, place)) e
@@ -39,12 +35,8 @@ unread_within : (number : ℕ → ℕ) (place : ℕ) (r : RoutineParts) (s : Sta
     → within place u t (Unread word) ≡ Err (missing (misses_part s word), place)
 unread_within number place r stage.AwaitsExit u faults.AwaitsExit word is = refl
 unread_within number place r (stage.InExit x) u (faults.InExit e) word is = refl
-unread_within number place r stage.AwaitsLabel u (faults.AwaitsLabel exit) word is =
-    placed place (if bytes_eq word (codes "label") then P1 else P5)
-    (missing (not (bytes_eq word (codes "label")))) (turned (bytes_eq word (codes "label")))
-unread_within number place r stage.AwaitsFrame u (faults.AwaitsFrame exit blocks label) word is =
-    placed place (if bytes_eq word (codes "frame") then P1 else P5)
-    (missing (not (bytes_eq word (codes "frame")))) (turned (bytes_eq word (codes "frame")))
+unread_within number place r stage.AwaitsLabel u (faults.AwaitsLabel exit) word is = grind arith
+unread_within number place r stage.AwaitsFrame u (faults.AwaitsFrame exit blocks label) word is = grind arith
 unread_within number place r (stage.InFrame p) u (faults.InFrame exit blocks label c) word is = refl
 unread_within number place r (stage.AwaitsPieces p) u (faults.InPieces exit blocks label f) word is = refl
 unread_within number place r stage.InCode u (faults.InCode exit blocks b) word is = refl

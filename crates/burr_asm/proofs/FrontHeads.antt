@@ -112,9 +112,7 @@ pub lines_more : (ps : List ProcedureSource) (p : ProcedureSource)
     ≡ length (flat_map procedure_lines ps) + length (procedure_lines p)
 lines_more ps p =
     let both = ap length (flat_map-append procedure_lines ps (p ∷ [])) in
-    let long = length-append (flat_map procedure_lines ps) (flat_map procedure_lines (p ∷ [])) in
-    let one = length-append (procedure_lines p) [] in
-    omega (arith, both, long, one)
+    omega (arith, both, length-append (flat_map procedure_lines ps) (flat_map procedure_lines (p ∷ [])), length-append (procedure_lines p) [])
 
 -- A procedure whose first line has been read, and no other.
 pub routine_begun : (number : ℕ → ℕ) (place start version : ℕ) (s : Signature)

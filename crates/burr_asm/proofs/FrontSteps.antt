@@ -26,10 +26,11 @@ use Rattle.burr_asm.specs.Views.Faults.{IsRefusal}
 use Rattle.burr_asm.specs.Views.Routines.{RoutineParts, OutlineParts, begun, ends_with_label, head_refusal, with_name, with_routine, IsLabelAtEnd, titled_outline}
 use Rattle.burr_asm.specs.Views.Beginnings.{AfterFrame, BeforeLabels}
 use Rattle.burr_asm.specs.Views.Fronts.{IsOutline, IsUnderWay, IsFront, IsFaultOf, IsNext, names_begun, start_of, in_procedure}
-use Rattle.burr_asm.specs.Views.Steps.{GivesStage, changed}
+use Rattle.burr_asm.specs.Views.Steps.{GivesStage}
 use Rattle.burr_asm.specs.Views.FrontSteps.{BeginsMain, NextProcedure, GivesWithin, GivesFront}
 use Rattle.burr_asm.proofs.FrontHeads.{head_same, outline_titled, outline_begun, outline_ended, lines_more, routine_begun}
 use Rattle.burr_asm.proofs.StageLabels.{last_has_code}
+use Rattle.burr_asm.proofs.StageLines.{refused_by, passes}
 
 -- Tests
 
@@ -46,18 +47,6 @@ module _ {A : Type 0} where
       → given ≡ other → IsFaultOf number other e → IsFaultOf number given e
   same_fault number given other e same is =
       subst (λ (g : Result A PlacedFault). IsFaultOf number g e) (sym same) is
-
--- What the code refuses by a check, the rules refuse at that line.
-pub judged_refused : (number : ℕ → ℕ) (place n : ℕ) (check : Option FaultKind) (next : Beginning)
-    (e : AsmFault) → n ≡ number place → IsRefusal check n e
-    → IsFaultOf number (judged place check next) e
-judged_refused number place n check next e at (inl memory) = inl memory
-judged_refused number place n check next e at (inr (kind, is, same)) =
-    inr ((kind, place), ap (λ (c : Option FaultKind). judged place c next) is, same ∙ ap (fault_at kind) at)
-
-pub judged_passed : (place : ℕ) (check : Option FaultKind) (next : Beginning) → check ≡ None
-    → judged place check next ≡ Ok next
-judged_passed place check next is = ap (λ (c : Option FaultKind). judged place c next) is
 
 -- The first line of a procedure
 
@@ -118,7 +107,7 @@ main_refused o h n t e told so refused = λ number title at is.
     let version = is_of_version title.version h.results in
     same_fault number (needing version (P1, 1) more) more e
     (needing_so version (P1, 1) more (of_title number o title [] [] h t told is ∙ so))
-    (judged_refused number 1 n (head_check [] h) (main_open title h) e at
+    (refused_by number 1 n (head_check [] h) (main_open title h) e at
     (subst (λ (c : Option FaultKind). IsRefusal c n e) (head_same number o title [] h is) refused))
 
 -- Main has begun.
@@ -130,7 +119,7 @@ main_begun o new h r n t told so has = λ number title at is.
       next,
       needing_so (is_of_version title.version h.results) (P1, 1) (judged 1 (head_check [] h) next)
           (of_title number o title [] [] h t told is ∙ so)
-          ∙ judged_passed 1 (head_check [] h) next (sym (head_same number o title [] h is) ∙ has.0),
+          ∙ passes 1 (head_check [] h) next (sym (head_same number o title [] h is) ∙ has.0),
       head_taken number 2 1 o new r title [] h has is refl,
     )
 
@@ -234,7 +223,7 @@ next_refused o with_ended r h n t e told so ends same refused = λ number place 
     same_fault number (in_code place u exit blocks b (Reads (ProcLine h)))
     (next_judged place u exit blocks b h) e
     (may_end number place o r h t u exit blocks b told so ends is)
-    (judged_refused number place n (head_check before h) (next_open u exit blocks b h) e at
+    (refused_by number place n (head_check before h) (next_open u exit blocks b h) e at
     (subst (λ (c : Option FaultKind). IsRefusal c n e)
     (head_same number with_ended u.title before h outline) refused))
 
@@ -253,7 +242,7 @@ next_begun o with_ended new r after h n t told so ends same has = λ number plac
     omega (arith, lines, here) in (
       next,
       may_end number place o r h t u exit blocks b told so ends is
-          ∙ judged_passed place (head_check before h) next
+          ∙ passes place (head_check before h) next
           (sym (head_same number with_ended u.title before h outline) ∙ has.0),
       head_taken number (suc place) (1 + length (flat_map procedure_lines before)) with_ended new after
           u.title before h has outline there,
@@ -275,18 +264,6 @@ pub stage_refused : (o : OutlineParts) (old new : RoutineParts) (s : Stage) (pie
 stage_refused o old new s pieces line n e count gives = λ number place u t at is.
     gives number place u t (count ∙ is.0.pieces_are) at is.1
 
--- the same in place
-pub stage_changed : (w new : UnderWay) (pieces : ℕ) (line : Line) (n : ℕ)
-    (result : Result (Unit {0}) AsmFault) → pieces ≡ w.outline.pieces → new.outline ≡ w.outline
-    → GivesStage w.stage w.routine pieces line n new.routine (changed new.stage result)
-    → GivesWithin w.outline w.routine w.stage line n (changed (InProcedure new) result)
-stage_changed w new pieces line n (Ok done) count same gives =
-    subst (λ (o : OutlineParts). GivesWithin w.outline w.routine w.stage line n (Ok (in_procedure o new.routine new.stage)))
-    (sym same)
-    (stage_goes_on w.outline w.routine new.routine w.stage new.stage pieces line n count gives)
-stage_changed w new pieces line n (Err e) count same gives =
-    stage_refused w.outline w.routine new.routine w.stage pieces line n e count gives
-
 -- Fronts
 
 title_by : (title : PlanWords) (o : OutlineParts) (number : ℕ → ℕ) (place : ℕ) (b : Beginning)
@@ -294,7 +271,7 @@ title_by : (title : PlanWords) (o : OutlineParts) (number : ℕ → ℕ) (place 
     → IsNext number place (with_line place b (Reads (PlanLine title))) (Ok (AwaitsMain o))
 title_by title o number place Blank passed same is = (
   Titled title,
-  judged_passed place (title_check title) (Titled title) passed,
+  passes place (title_check title) (Titled title) passed,
   (
     subst (λ (o : OutlineParts). IsOutline number o title [] []) (sym same)
         (outline_titled number title),

@@ -1,5 +1,5 @@
 -- Why the first line of a plan or of a procedure is refused.
-use Rattle.std.proofs.Common.{◌≡◌, ℕ, ◌≤◌, List, [], ◌∷◌, length, ◌==◌, Bool, true, false, inr, refl, sym, ap, ◌∙◌, subst, ◌<◌}
+use Rattle.std.proofs.Common.{◌≡◌, ℕ, ◌≤◌, List, [], ◌∷◌, length, ◌==◌, Bool, true, false, refl, sym, ap, ◌∙◌, subst, ◌<◌}
 use Rattle.std.specs.Prelude.{Option, Some, None, not, nat_lt, ◌&&◌, if◌then◌else◌}
 use Rattle.std.specs.Option.{is_some}
 use Rattle.std.proofs.Math.Dec.{eqb-suc-zero}
@@ -13,22 +13,17 @@ use Rattle.burr_asm.specs.declared.fault.AsmFault.TheVariants as fault
 use Rattle.burr_asm.specs.Views.Faults.{IsRefusal}
 use Rattle.burr_asm.specs.Views.Names.{number_if_known}
 use Rattle.burr_asm.specs.Views.Routines.{OutlineParts, are_counts, head_refusal}
+use Rattle.burr_asm.proofs.Refusals.{failed, passed, refused}
 
--- the plan's line with a number out of its range
-title_refused : (t : PlanWords) (line : ℕ) → (is_within 2 32 t.pieces && is_within 1 MOST_BUDGET t.budget) ≡ false → IsRefusal (title_check t) line (fault.P3 line)
-title_refused t line e = inr (P3, ap (λ (test : Bool). unless test P3 None) e, refl)
-
--- it is the number of pieces
+-- the plan's line with a number of pieces out of its range
 pub pieces_refused : (t : PlanWords) (line : ℕ) → is_within 2 32 t.pieces ≡ false → IsRefusal (title_check t) line (fault.P3 line)
-pieces_refused t line e = title_refused t line (ap (λ (test : Bool). test && is_within 1 MOST_BUDGET t.budget) e)
+pieces_refused t line e =
+    refused (title_check t) P3 line (failed (is_within 2 32 t.pieces && is_within 1 MOST_BUDGET t.budget) P3 None (and_left (is_within 2 32 t.pieces) (is_within 1 MOST_BUDGET t.budget) e))
 
--- it is the budget
+-- with a budget out of its range
 pub budget_refused : (t : PlanWords) (line : ℕ) → is_within 1 MOST_BUDGET t.budget ≡ false → IsRefusal (title_check t) line (fault.P3 line)
-budget_refused t line e = title_refused t line (by (is_within 2 32 t.pieces))
-  where
-    by : (test : Bool) → (test && is_within 1 MOST_BUDGET t.budget) ≡ false
-    by true = e
-    by false = refl
+budget_refused t line e =
+    refused (title_check t) P3 line (failed (is_within 2 32 t.pieces && is_within 1 MOST_BUDGET t.budget) P3 None (and_right (is_within 2 32 t.pieces) (is_within 1 MOST_BUDGET t.budget) e))
 
 -- the counts of a procedure, by what was asked first: whether it is main
 module _ (o : OutlineParts) (h : ProcedureWords) (main : Bool) (none_ended : main ≡ (length o.ended == 0)) where
@@ -57,55 +52,48 @@ module _ (o : OutlineParts) (h : ProcedureWords) (main : Bool) (none_ended : mai
   pub counts_passed : parameters main ≡ true → results main ≡ true → are_counts o h ≡ true
   counts_passed e f = λ i. (ap parameters (sym is_main) ∙ e) i && (ap results (sym is_main) ∙ f) i
 
+-- a name has a number just where it is among the names
+some_if : (known : Bool) (number : ℕ) → is_some (if known then Some number else None) ≡ known
+some_if true number = refl
+some_if false number = refl
+
 -- a name that has no number is not among the names
 pub no_number : (known : Bool) (number : ℕ) → false ≡ is_some (if known then Some number else None) → known ≡ false
-no_number true number e = sym e
-no_number false number e = refl
+no_number known number e = sym (e ∙ some_if known number)
 
--- a name that has a number is one of the names
-a_number : (known : Bool) (number : ℕ) → true ≡ is_some (if known then Some number else None) → known ≡ true
-a_number true number e = refl
-a_number false number e = sym e
+module _ (o : OutlineParts) (h : ProcedureWords) (line : ℕ) (names : List (List ℕ)) (same : names ≡ o.names) where
+  -- what is wrong with a procedure's line whose name is new, and with one whose counts are right too
+  abbrev few : Option FaultKind
+  few = unless (nat_lt (length o.names) MOST_PROCEDURES) P4 None
 
--- what is wrong with a procedure's line, by its three tests
-abbrev refusal : Bool → Bool → Bool → Option FaultKind
-refusal known counted few = unless (not known) P2 (unless counted P3 (unless few P4 None))
+  abbrev counts : Option FaultKind
+  counts = unless (are_counts o h) P3 few
 
--- a procedure's line with a name that is taken
-pub head_known : (o : OutlineParts) (h : ProcedureWords) (line : ℕ) (names : List (List ℕ)) → names ≡ o.names → true ≡ is_some (number_if_known names h.name) → IsRefusal (head_refusal o h) line (fault.P2 line)
-head_known o h line names same taken =
-    let known : is_known o.names h.name ≡ true = ap (λ (ns : List (List ℕ)). is_known ns h.name) (sym same) ∙ a_number (is_known names h.name) (number_of names h.name) taken in
-    inr (P2, ap (λ (known : Bool). refusal known (are_counts o h) (nat_lt (length o.names) MOST_PROCEDURES)) known, refl)
+  known_is : (t : Bool) → t ≡ is_some (number_if_known names h.name) → not (is_known o.names h.name) ≡ not t
+  known_is t told =
+      ap (λ (ns : List (List ℕ)). not (is_known ns h.name)) (sym same) ∙ ap not (sym (told ∙ some_if (is_known names h.name) (number_of names h.name)))
 
--- a procedure's line with a new name and a number out of its range
-pub head_counts : (o : OutlineParts) (h : ProcedureWords) (line : ℕ) (names : List (List ℕ)) → names ≡ o.names → false ≡ is_some (number_if_known names h.name) → are_counts o h ≡ false → IsRefusal (head_refusal o h) line (fault.P3 line)
-head_counts o h line names same new counted =
-    let unknown : is_known o.names h.name ≡ false = ap (λ (ns : List (List ℕ)). is_known ns h.name) (sym same) ∙ no_number (is_known names h.name) (number_of names h.name) new in
-    inr (
-      P3,
-      ap (λ (known : Bool). refusal known (are_counts o h) (nat_lt (length o.names) MOST_PROCEDURES)) unknown
-          ∙ ap (λ (test : Bool). refusal false test (nat_lt (length o.names) MOST_PROCEDURES)) counted,
-      refl,
-    )
+  -- a procedure's line with a name that is taken
+  pub head_known : true ≡ is_some (number_if_known names h.name) → IsRefusal (head_refusal o h) line (fault.P2 line)
+  head_known taken = refused (head_refusal o h) P2 line (failed (not (is_known o.names h.name)) P2 counts (known_is true taken))
 
--- a procedure's line, with a new name and right numbers, after as many procedures as a plan may have
-pub head_full : (o : OutlineParts) (h : ProcedureWords) (line count : ℕ) (names : List (List ℕ)) → names ≡ o.names → false ≡ is_some (number_if_known names h.name) → are_counts o h ≡ true → count ≡ length names → MOST_PROCEDURES ≤ count → IsRefusal (head_refusal o h) line (fault.P4 line)
-head_full o h line count names same new counted many full =
-    let unknown : is_known o.names h.name ≡ false = ap (λ (ns : List (List ℕ)). is_known ns h.name) (sym same) ∙ no_number (is_known names h.name) (number_of names h.name) new in
-    let none_left : nat_lt (length o.names) MOST_PROCEDURES ≡ false = le-ltb (length o.names) MOST_PROCEDURES (subst (λ (n : ℕ). MOST_PROCEDURES ≤ n) (many ∙ ap length same) full) in
-    inr (
-      P4,
-      ap (λ (known : Bool). refusal known (are_counts o h) (nat_lt (length o.names) MOST_PROCEDURES)) unknown
-          ∙ ap (λ (test : Bool). refusal false test (nat_lt (length o.names) MOST_PROCEDURES)) counted
-          ∙ ap (refusal false true) none_left,
-      refl,
-    )
+  module _ (new : false ≡ is_some (number_if_known names h.name)) where
+    new_name : head_refusal o h ≡ counts
+    new_name = passed (not (is_known o.names h.name)) P2 counts (known_is false new)
 
--- a procedure's line, with a new name and right numbers, where there is room for one more
-pub head_passed : (o : OutlineParts) (h : ProcedureWords) (count : ℕ) (names : List (List ℕ)) → names ≡ o.names → false ≡ is_some (number_if_known names h.name) → are_counts o h ≡ true → count ≡ length names → count < MOST_PROCEDURES → head_refusal o h ≡ None
-head_passed o h count names same new counted many few =
-    let unknown : is_known o.names h.name ≡ false = ap (λ (ns : List (List ℕ)). is_known ns h.name) (sym same) ∙ no_number (is_known names h.name) (number_of names h.name) new in
-    let some_left : nat_lt (length o.names) MOST_PROCEDURES ≡ true = lt-ltb (length o.names) MOST_PROCEDURES (subst (λ (n : ℕ). n < MOST_PROCEDURES) (many ∙ ap length same) few) in
-    ap (λ (known : Bool). refusal known (are_counts o h) (nat_lt (length o.names) MOST_PROCEDURES)) unknown
-    ∙ ap (λ (test : Bool). refusal false test (nat_lt (length o.names) MOST_PROCEDURES)) counted
-    ∙ ap (refusal false true) some_left
+    -- a procedure's line with a new name and a number out of its range
+    pub head_counts : are_counts o h ≡ false → IsRefusal (head_refusal o h) line (fault.P3 line)
+    head_counts counted = refused (head_refusal o h) P3 line (new_name ∙ failed (are_counts o h) P3 few counted)
+
+    module _ (count : ℕ) (counted : are_counts o h ≡ true) (many : count ≡ length names) where
+      right : head_refusal o h ≡ few
+      right = new_name ∙ passed (are_counts o h) P3 few counted
+
+      -- one with right numbers, after as many procedures as a plan may have
+      pub head_full : MOST_PROCEDURES ≤ count → IsRefusal (head_refusal o h) line (fault.P4 line)
+      head_full full =
+          refused (head_refusal o h) P4 line (right ∙ failed (nat_lt (length o.names) MOST_PROCEDURES) P4 None (le-ltb (length o.names) MOST_PROCEDURES (subst (λ (n : ℕ). MOST_PROCEDURES ≤ n) (many ∙ ap length same) full)))
+
+      -- and where there is room for one more
+      pub head_passed : count < MOST_PROCEDURES → head_refusal o h ≡ None
+      head_passed room = right ∙ passed (nat_lt (length o.names) MOST_PROCEDURES) P4 None (lt-ltb (length o.names) MOST_PROCEDURES (subst (λ (n : ℕ). n < MOST_PROCEDURES) (many ∙ ap length same) room))

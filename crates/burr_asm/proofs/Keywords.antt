@@ -4,7 +4,7 @@ use Rattle.std.specs.Prelude.{codes, Option, Some, None, ◌||◌, if◌then◌e
 use Rattle.std.specs.List.{list_all, list_any}
 use Rattle.std.specs.Str.{bytes_eq}
 use Rattle.std.specs.Borrow.{Bor}
-use Rattle.std.proofs.lemmas.Bool.{and_parts, false≢true}
+use Rattle.std.proofs.lemmas.Bool.{and_parts, false≢true, false_from_ne_true}
 use Rattle.std.proofs.lemmas.List.{take_all}
 use Rattle.std.proofs.lemmas.List.Folds.{list_all-map}
 use Rattle.std.proofs.lemmas.Slice.Eq.{bytes_eq-Decides}
@@ -17,24 +17,15 @@ use Rattle.burr_plantext.proofs.Common.ParsedNumbers.{or_cases}
 use Rattle.burr_asm.specs.Views.Keywords.{word_of, keyword_line}
 use Rattle.burr_asm.specs.declared.text.line.Keyword.{Keyword}
 use Rattle.burr_asm.specs.declared.text.line.Keyword.TheVariants as key
-use Rattle.burr_asm.specs.declared.text.line.PartKeyword.TheVariants as part
-use Rattle.burr_asm.specs.declared.text.line.FrameKeyword.TheVariants as frame
-use Rattle.burr_asm.specs.declared.text.line.FormKeyword.TheVariants as form
 use Rattle.burr_asm.specs.declared.text.line.CodeKeyword.TheVariants as code
-use Rattle.burr_asm.specs.declared.text.line.PlainKeyword.TheVariants as plain
 use Rattle.burr_asm.specs.declared.text.line.NumberKeyword.TheVariants as number
-use Rattle.burr_asm.specs.declared.text.front.Version.TheVariants.{One, Two}
 
 alike : (word key : List ℕ) → bytes_eq word key ≡ true → word ≡ key
 alike word key e = (bytes_eq-Decides word key).0 e
 
 -- a word that is not another one
 pub unlike : (word key : List ℕ) → word ≢ key → bytes_eq word key ≡ false
-unlike word key differs = by (bytes_eq word key) refl
-  where
-    by : (t : Bool) → bytes_eq word key ≡ t → t ≡ false
-    by true e = absurd (differs (alike word key e))
-    by false e = refl
+unlike word key differs = false_from_ne_true (bytes_eq word key) (λ e. differs (alike word key e))
 
 -- Words that are not among others
 
@@ -106,14 +97,10 @@ line_of_keyword keyword operands = by keyword
     whole (Some line) = refl
 
     by : (keyword : Keyword) → line_of (word_of keyword ∷ operands) ≡ keyword_line keyword operands
+    by (key.Code (code.Number number.Push)) = refl
     by (key.Code code.Jump) = refl
     by (key.Code _) = refl
-    by (key.Plain (plain.Number number.Push)) = refl
-    by (key.Plain _) = refl
-    by (key.Plan One) = whole (keyword_line (key.Plan One) operands)
-    by (key.Part part.Procedure) = whole (keyword_line (key.Part part.Procedure) operands)
-    by (key.Frame frame.Slot) = whole (keyword_line (key.Frame frame.Slot) operands)
-    by (key.Form form.Guard) = whole (keyword_line (key.Form form.Guard) operands)
+    by key.Plan = whole (keyword_line key.Plan operands)
     by keyword = whole (keyword_line keyword operands)
 
 -- all keywords, in the order in which the code asks for them
@@ -134,7 +121,7 @@ line_of_no_keyword word bytes none =
     no keyword e = none keyword (sym e)
 
     is_none : IsNoneOf word keywords
-    is_none = (no (key.Frame frame.At), (no (key.Frame frame.Slot), (no (key.Form form.Guard), (no (key.Form form.Stack), (no (key.Form form.Cost), (no (key.Part part.Frame), (no (key.Part part.Label), (no (key.Plain (plain.Number number.Push)), (no (key.Plain (plain.Number number.Load)), (no (key.Plain (plain.Number number.Store)), (no (key.Plain plain.Step), (no (key.Code code.Down), (no (key.Plain plain.Aside), (no (key.Code code.Jump), (no (key.Plain plain.Grip), (no (key.Plain (plain.Number number.Tray)), (no (key.Plain plain.Ask), (no (key.Code code.Call), (no (key.Code code.Byte), (no (key.Code code.Pick), (no (key.Part part.Procedure), (no (key.Part part.Exit), (no (key.Frame frame.Result), (no (key.Plan One), (no (key.Plan Two), tt)))))))))))))))))))))))))
+    is_none = (no key.At, (no key.Slot, (no key.Guard, (no key.Stack, (no key.Cost, (no key.Frame, (no key.Label, (no (key.Code (code.Number number.Push)), (no (key.Code (code.Number number.Load)), (no (key.Code (code.Number number.Store)), (no (key.Code code.Step), (no (key.Code code.Down), (no (key.Code code.Aside), (no (key.Code code.Jump), (no (key.Code code.Grip), (no (key.Code (code.Number number.Tray)), (no (key.Code code.Ask), (no (key.Code code.Call), (no (key.Code code.Byte), (no (key.Code code.Pick), (no key.Procedure, (no key.Exit, (no key.Result, (no key.Plan, (no key.Plan2, tt)))))))))))))))))))))))))
 
 -- The table of the code
 
@@ -156,12 +143,9 @@ no_keyword word items n same all none keyword e =
         ∙ ap (list_all (λ (entry : Entry). not (bytes_eq word (text_of entry)))) (sym (take_all n items all)) ∙ none
 
     among : (keyword : Keyword) → list_all (λ (text : List ℕ). not (bytes_eq (word_of keyword) text)) keywords ≡ false
-    among (key.Plan One) = refl
-    among (key.Part part.Procedure) = refl
-    among (key.Frame frame.Slot) = refl
-    among (key.Form form.Guard) = refl
+    among key.Plan = refl
     among (key.Code code.Jump) = refl
-    among (key.Plain (plain.Number number.Push)) = refl
+    among (key.Code (code.Number number.Push)) = refl
     among _ = refl
 
 -- A line of one word is a line of code.

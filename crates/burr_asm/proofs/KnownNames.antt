@@ -1,5 +1,5 @@
 -- What one more name changes among names and their numbers.
-use Rattle.std.proofs.Common.{◌≡◌, ℕ, suc, ◌<◌, List, [], ◌∷◌, ◌++◌, length, Bool, true, false, cond, refl, sym, ap, ◌∙◌}
+use Rattle.std.proofs.Common.{◌≡◌, ℕ, suc, ◌<◌, List, [], ◌∷◌, ◌++◌, length, Bool, true, false, cond, refl, sym, ap, ◌∙◌, arith}
 use Rattle.std.specs.Prelude.{Option, Some, None, ◌||◌, if◌then◌else◌}
 use Rattle.std.specs.Borrow.{Bor}
 use Rattle.std.specs.Str.{bytes_eq}
@@ -21,12 +21,7 @@ behind true n = Some 0
 behind false n = raised n
 
 number_next : (names : List (List ℕ)) (first name : List ℕ) → number_if_known (first ∷ names) name ≡ behind (bytes_eq first name) (number_if_known names name)
-number_next names first name = by (bytes_eq first name) (is_known names name)
-  where
-    by : (t s : Bool) → (if t || s then Some (if t then 0 else suc (number_of names name)) else None) ≡ behind t (if s then Some (number_of names name) else None)
-    by true s = refl
-    by false true = refl
-    by false false = refl
+number_next names first name = grind arith
 
 -- two names that are both the one that is looked for are the same
 same_name : (first new name : List ℕ) → bytes_eq first name ≡ true → bytes_eq new name ≡ true → bytes_eq first new ≡ true
@@ -39,11 +34,7 @@ not_either false s h = (refl, h)
 
 -- a last name that is not among those before it has their count as its number
 pub number_last : (names : List (List ℕ)) (new : List ℕ) → is_known names new ≡ false → (name : List ℕ) → number_if_known (names ++ new ∷ []) name ≡ cond (bytes_eq new name) (Some (length names)) (number_if_known names name)
-number_last [] new unknown name = by (bytes_eq new name)
-  where
-    by : (t : Bool) → ◌≡◌ {A = Option ℕ} (if t || false then Some (if t then 0 else 1) else None) (cond t (Some 0) None)
-    by true = refl
-    by false = refl
+number_last [] new unknown name = grind arith
 number_last (first ∷ names) new unknown name =
     let more = not_either (bytes_eq first new) (is_known names new) unknown in
     number_next (names ++ new ∷ []) first name

@@ -24,15 +24,6 @@ use Rattle.burr_asm.proofs.Finishing.{resolved_is, source_of}
 use Rattle.burr_asm.proofs.StageLabels.{last_has_code}
 use Rattle.burr_asm.proofs.FrontHeads.{outline_ended}
 
--- a procedure is under way
-abbrev pub has_procedure : Front → Bool
-has_procedure (InProcedure w) = true
-has_procedure _ = false
-
-pub no_procedure : (f : Front) → ((w : UnderWay) → f ≡ InProcedure w → ⊥) → has_procedure f ≡ false
-no_procedure (InProcedure w) other = absurd (other w refl)
-no_procedure _ other = refl
-
 -- after a frame the code and the rules are there both
 pub after_frame : (number : ℕ → ℕ) (place : ℕ) (u : OpenProcedure) (r : RoutineParts) (stage : Stage) (exit : Option ExitSource) (blocks : List Block) (b : Block)
     → IsStage number place (start_of u) u.title.version r u.head stage (faults.InCode exit blocks b) → AfterFrame number place (start_of u) u.title.version r u.head exit blocks b
@@ -113,11 +104,8 @@ module _ (number : ℕ → ℕ) (place n : ℕ) (f : Front) (o : OutlineParts) (
           subst (λ (t : faults.Stage). IsPlanOf number (then_named (end_within place u t)) result) (sym at) (text_is_whole number place o r u exit blocks last h.0 after whole result full more told)
 
 -- The text may not end before its first procedure.
-pub ends_before : (number : ℕ → ℕ) (place n : ℕ) (f : Front) (b : Beginning) → has_procedure f ≡ false → n ≡ number place → IsFront number place f b → IsFaultOf number (ending place b) (fault.P1 n)
-ends_before number place n AwaitsPlan Blank none is h = inr ((P1, place), refl, ap fault.P1 is)
-ends_before number place n (AwaitsMain o) (Titled title) none is h = inr ((P1, place), refl, ap fault.P1 is)
-ends_before number place n (InProcedure w) b none is h = absurd (never none)
-  where
-    never : true ≡ false → ⊥
-    never e = cc
-ends_before number place n _ _ none is h = absurd h
+pub ends_before : (number : ℕ → ℕ) (place n : ℕ) (f : Front) (b : Beginning) → ((w : UnderWay) → f ≡ InProcedure w → ⊥) → n ≡ number place → IsFront number place f b → IsFaultOf number (ending place b) (fault.P1 n)
+ends_before number place n AwaitsPlan Blank other is h = inr ((P1, place), refl, ap fault.P1 is)
+ends_before number place n (AwaitsMain o) (Titled title) other is h = inr ((P1, place), refl, ap fault.P1 is)
+ends_before number place n (InProcedure w) b other is h = absurd (other w refl)
+ends_before number place n _ _ other is h = absurd h

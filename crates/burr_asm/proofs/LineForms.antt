@@ -1,10 +1,10 @@
 -- Operands of a line, as the code reads them one by one, are those of the line's rule.
-use Rattle.std.proofs.Common.{◌≡◌, ◌≢◌, ℕ, List, [], ◌∷◌, Bool, true, false, IsTrue, Contains, ◌≤◌, ◌⊎◌, inl, inr, length, drop, ◌==◌, refl, sym, ap, subst, ◌∙◌, arith, eqb-true}
+use Rattle.std.proofs.Common.{◌≡◌, ◌≢◌, ℕ, List, [], ◌∷◌, ◌++◌, Bool, true, false, IsTrue, Contains, ◌≤◌, drop, refl, sym, ap, subst, ◌∙◌, arith, append-nil}
 use Rattle.std.specs.Prelude.{Option, Some, None, codes, ◌+◌, ◌*◌, ◌&&◌, slice_index_or, if◌then◌else◌}
 use Rattle.std.specs.List.{list_all}
 use Rattle.std.specs.Str.{bytes_eq}
-use Rattle.std.specs.Str.Parse.{starts_with_minus}
 use Rattle.std.proofs.lemmas.Bool.{and_parts, false≢true}
+use Rattle.std.proofs.lemmas.Option.{none-some}
 use Rattle.std.proofs.lemmas.Slice.Eq.{bytes_eq-Decides}
 use Rattle.burr_text.specs.Words.{IsCutAt}
 use Rattle.burr_text.proofs.Common.Cuts.{Lacks}
@@ -16,13 +16,14 @@ use Rattle.burr_plantext.specs.Rules.Operands.{given, alone, one, two, three, al
 use Rattle.burr_plantext.specs.Rules.Statements.{Statement, Byte, hex_value, is_hex_digit, raw_byte, bytes_line}
 use Rattle.burr_plantext.specs.Rules.Lines.{Line, GripWords, ResultLine, SlotLine, grip_line, result_line, slot_line, head_line, procedure_line, PlaceWords, Apart, On, at_line, piece_line}
 use Rattle.burr_plantext.specs.Rules.Texts.{words_of}
-use Rattle.burr_plantext.specs.Rules.Written.{pieces, parted, in_first, is_count, is_natural, is_number, is_set, is_sign, is_term, is_form, signed, signed_parts, constant_word, term_words}
+use Rattle.burr_plantext.specs.Rules.Written.{in_first, is_number, is_set, is_sign, is_term, is_form, signed, signed_parts, constant_word, term_words}
 use Rattle.burr_plantext.proofs.Common.Blanks.{one_word, number_lacks}
 use Rattle.burr_plantext.proofs.Common.Cuts.{pieces_cut, pieces_uncut, some_pieces}
-use Rattle.burr_plantext.proofs.Common.ParsedNumbers.{or_left, or_right, or_cases}
+use Rattle.burr_plantext.proofs.Common.Pieces.{digits_lack, lacks_both}
 use Rattle.burr_asm.specs.Views.LineWords.{range_between, slot_between}
 use Rattle.burr_asm.specs.Views.Places.{place_line, three_words}
 use Rattle.burr_asm.specs.Views.Words.{cut_word}
+use Rattle.burr_asm.proofs.FormWords.{count_digits, natural_digits, term_cut_up}
 use Rattle.burr_asm.proofs.Keywords.{by_keys, nothing_said, unlike}
 
 -- Directions
@@ -80,16 +81,8 @@ not_both x e = cc
 module _ {A : Type 0} where
   no_direction : (line : Direction → A) (words : List (List ℕ)) → one is_direction (λ w. w) words ≡ None → directed (λ d. alone (line d)) words ≡ None
   no_direction line [] e = refl
-  no_direction line (word ∷ []) e = by (direction_of word) e
-    where
-      by : (found : Option Direction) → given (is_some found) word ≡ None → along found (λ d. alone (line d)) [] ≡ None
-      by None e = refl
-      by (Some d) e = absurd (not_both word e)
-  no_direction line (word ∷ next ∷ words) e = by (direction_of word)
-    where
-      by : (found : Option Direction) → along found (λ d. alone (line d)) (next ∷ words) ≡ None
-      by None = refl
-      by (Some d) = refl
+  no_direction line (word ∷ []) e = grind (arith, e)
+  no_direction line (word ∷ next ∷ words) e = grind arith
 
   -- a direction that is all of the bytes
   pub step_failed : (line : Direction → A) (bytes : List ℕ) → ((d : Direction) → name_of d ≢ bytes) → directed (λ d. alone (line d)) (words_of bytes) ≡ None
@@ -151,61 +144,18 @@ byte_failed bytes e =
   where
     no_byte : (words : List (List ℕ)) → one (λ w. is_byte (raw_byte w)) (λ w. w) words ≡ None → bytes_line words ≡ None
     no_byte [] e = refl
-    no_byte (word ∷ []) e = by (raw_byte word) e
-      where
-        by : (found : Option Statement) → given (is_byte found) word ≡ None → found ≡ None
-        by None e = refl
-        by (Some s) e = absurd (not_both word e)
+    no_byte (word ∷ []) e = grind (arith, e)
     no_byte (word ∷ next ∷ words) e = refl
 
 -- Forms
 
-abbrev AllLack : ℕ → List (List ℕ) → Type 0
-AllLack d [] = Unit {0}
-AllLack d (p ∷ ps) = Lacks d p × AllLack d ps
-
-lacks_first : (d b : ℕ) (ps : List (List ℕ)) → AllLack d (in_first b ps) → (b ≢ d) × AllLack d ps
-lacks_first d b [] h = (h.0.0, tt)
-lacks_first d b (p ∷ ps) h = (h.0.0, (h.0.1, h.1))
-
--- where no piece has a byte that is no separator, no byte is it
-lacks_all : (c d : ℕ) → c ≢ d → (w : List ℕ) → AllLack d (pieces c w) → Lacks d w
-lacks_all c d differ [] h = tt
-lacks_all c d differ (b ∷ w) h = by (b == c) refl h (lacks_all c d differ w)
-  where
-    by : (t : Bool) → (b == c) ≡ t → AllLack d (parted t b (pieces c w)) → (AllLack d (pieces c w) → Lacks d w) → Lacks d (b ∷ w)
-    by true e k more = (λ f. differ (sym (eqb-true b c e) ∙ f), more k.1)
-    by false e k more = let parts = lacks_first d b (pieces c w) k in (parts.0, more parts.1)
-
-natural_lacks : (w : List ℕ) → IsTrue (is_natural w) → Lacks 32 w
-natural_lacks w h = number_lacks w (or_left (is_natural w) (starts_with_minus w && is_count (drop 1 w)) h)
-
-count_lacks : (w : List ℕ) → IsTrue (is_count w) → Lacks 32 w
-count_lacks w h = natural_lacks w (or_right (bytes_eq w (codes "0")) (is_count w) h)
-
-sign_cases : (b : ℕ) → is_sign b ≡ true → (b ≡ 43) ⊎ (b ≡ 45)
-sign_cases b h = or_cases (b == 43) (b == 45) ((b ≡ 43) ⊎ (b ≡ 45)) (λ e. inl (eqb-true b 43 e)) (λ e. inr (eqb-true b 45 e)) h
-
-two_parts : (ps : List (List ℕ)) → IsTrue ((length ps == 2) && is_count (slice_index_or ps 0 []) && is_natural (slice_index_or ps 1 [])) → AllLack 32 ps
-two_parts [] h = tt
-two_parts (p ∷ []) h = absurd (false≢true h)
-two_parts (p ∷ q ∷ []) h = let parts = and_parts (is_count p) (is_natural q) h in (count_lacks p parts.0, (natural_lacks q parts.1, tt))
-two_parts (p ∷ q ∷ r ∷ ps) h =
-    let count = and_parts (length (p ∷ q ∷ r ∷ ps) == 2) (is_count p) (and_parts ((length (p ∷ q ∷ r ∷ ps) == 2) && is_count p) (is_natural q) h).0 in
-    absurd (let two = eqb-true (length (p ∷ q ∷ r ∷ ps)) 2 count.0 in omega arith)
-
 -- a term, whose first byte is a sign
 term_lacks : (b : ℕ) (p : List ℕ) → is_sign b ≡ true → IsTrue (is_term (b ∷ p)) → Lacks 32 (b ∷ p)
-term_lacks b p sign h = by (sign_cases b sign)
-  where
-    rest : (b : ℕ) (ps : List (List ℕ)) → ((q : List ℕ) × (more : List (List ℕ)) × (ps ≡ q ∷ more))
-        → IsTrue ((length (in_first b ps) == 2) && is_count (drop 1 (slice_index_or (in_first b ps) 0 [])) && is_natural (slice_index_or (in_first b ps) 1 [])) → AllLack 32 ps
-    rest b [] some h = tt
-    rest b (q ∷ more) some h = two_parts (q ∷ more) h
-
-    by : (b ≡ 43) ⊎ (b ≡ 45) → Lacks 32 (b ∷ p)
-    by (inl e) = (λ f. omega arith, lacks_all 118 32 (λ f. omega arith) p (rest 43 (pieces 118 p) (some_pieces 118 p) (subst (λ (x : ℕ). IsTrue (is_term (x ∷ p))) e h)))
-    by (inr e) = (λ f. omega arith, lacks_all 118 32 (λ f. omega arith) p (rest 45 (pieces 118 p) (some_pieces 118 p) (subst (λ (x : ℕ). IsTrue (is_term (x ∷ p))) e h)))
+term_lacks b p sign h =
+    let (digits, slot, term) = term_cut_up b p [] sign tt h in
+    let whole : b ∷ p ≡ b ∷ (digits ++ (118 ∷ slot)) = ap (λ (w : List ℕ). b ∷ w) (sym (append-nil p)) ∙ term.parts ∙ ap (λ (w : List ℕ). b ∷ (digits ++ (118 ∷ w))) (append-nil slot) in
+    subst (Lacks 32) (sym whole)
+    (λ e. false≢true (sym (ap is_sign e) ∙ sign), lacks_both 32 digits (118 ∷ slot) (digits_lack 32 digits refl (count_digits digits term.count)) (λ e. omega arith, digits_lack 32 slot refl (natural_digits slot term.natural)))
 
 parts_lack : (w : List ℕ) → Lacks 32 (slice_index_or (signed_parts w) 0 []) → IsTrue (list_all is_term (drop 1 (signed_parts w))) → Lacks 32 w
 parts_lack [] h k = tt
@@ -260,46 +210,10 @@ module _ {A B : Type 0} (f : A → B) where
   three_mapped is_so is_also is_last line [] = refl
   three_mapped is_so is_also is_last line (word ∷ words) = two_mapped is_also is_last (line word) (if is_so word then words else [])
 
--- The first of some words was cut off: the test holds of it, and other words follow.
-record IsCut (is_so : List ℕ → Bool) (words : List (List ℕ)) (word : List ℕ) (rest : List (List ℕ)) : Type 0 where
-  next : List ℕ
-  more : List (List ℕ)
-  whole : words ≡ word ∷ next ∷ more
-  others : rest ≡ next ∷ more
-  holds : is_so word ≡ true
-
--- the first word and those after it, where a test of it holds
-abbrev first_if : Bool → List ℕ → List (List ℕ) → Option (List ℕ × List (List ℕ))
-first_if t word rest = if t then Some (word, rest) else None
-
-no_cut : {X : Type 0} (cut : List ℕ × List (List ℕ)) → ◌≡◌ {A = Option (List ℕ × List (List ℕ))} None (Some cut) → X
-no_cut cut e = absurd (cc)
-
-abbrev front_of : Option (List ℕ × List (List ℕ)) → List ℕ
-front_of None = []
-front_of (Some cut) = cut.0
-
-abbrev rest_of : Option (List ℕ × List (List ℕ)) → List (List ℕ)
-rest_of None = []
-rest_of (Some cut) = cut.1
-
-cut_parts : (is_so : List ℕ → Bool) (words : List (List ℕ)) (word : List ℕ) (rest : List (List ℕ)) → cut_word is_so words ≡ Some (word, rest) → IsCut is_so words word rest
-cut_parts is_so [] word rest e = no_cut (word, rest) e
-cut_parts is_so (w ∷ []) word rest e = no_cut (word, rest) e
-cut_parts is_so (w ∷ n ∷ more) word rest e = by (is_so w) refl e
-  where
-    by : (t : Bool) → is_so w ≡ t → first_if t w (n ∷ more) ≡ Some (word, rest) → IsCut is_so (w ∷ n ∷ more) word rest
-    by true is e =
-        let first : w ≡ word = ap front_of e in
-        let second : n ∷ more ≡ rest = ap rest_of e in
-        record {
-          next = n;
-          more = more;
-          whole = ap (λ (v : List ℕ). v ∷ n ∷ more) first;
-          others = sym second;
-          holds = ap is_so (sym first) ∙ is;
-        }
-    by false is e = no_cut (word, rest) e
+-- what was cut off, and that the test holds of it
+cut_is : (t : Bool) (word first : List ℕ) (more rest : List (List ℕ)) → ◌≡◌ {A = Option (List ℕ × List (List ℕ))} (if t then Some (word, more) else None) (Some (first, rest)) → (t ≡ true) × (word ≡ first) × (more ≡ rest)
+cut_is true word first more rest e = (refl, grind (arith, e), grind (arith, e))
+cut_is false word first more rest e = grind (arith, e)
 
 -- the number or numbers after a procedure's name
 abbrev pub numbers_line : List ℕ → List (List ℕ) → Option Line
@@ -309,89 +223,33 @@ numbers_line name words = None
 
 -- no name with a word after it
 pub procedure_none : (words : List (List ℕ)) → cut_word is_name_text words ≡ None → procedure_line words ≡ None
-procedure_none (name ∷ parameters ∷ []) e = by (is_name_text name) e
-  where
-    by : (t : Bool) → first_if t name (parameters ∷ []) ≡ None → given (t && is_number parameters) (head_line name parameters None) ≡ None
-    by true e = no_cut (name, parameters ∷ []) (sym e)
-    by false e = refl
-procedure_none (name ∷ parameters ∷ results ∷ []) e = by (is_name_text name) e
-  where
-    by : (t : Bool) → first_if t name (parameters ∷ results ∷ []) ≡ None → given (t && is_number parameters && is_number results) (head_line name parameters (Some results)) ≡ None
-    by true e = no_cut (name, parameters ∷ results ∷ []) (sym e)
-    by false e = refl
+procedure_none (name ∷ parameters ∷ []) e = grind (arith, e)
+procedure_none (name ∷ parameters ∷ results ∷ []) e = grind (arith, e)
 procedure_none _ e = refl
 
 pub procedure_named : (words : List (List ℕ)) (name : List ℕ) (rest : List (List ℕ)) → cut_word is_name_text words ≡ Some (name, rest) → procedure_line words ≡ numbers_line name rest
-procedure_named words name rest e =
-    let cut = cut_parts is_name_text words name rest e in
-    ap procedure_line cut.whole ∙ by cut.next cut.more cut.holds ∙ ap (numbers_line name) (sym cut.others)
-  where
-    by : (next : List ℕ) (more : List (List ℕ)) → is_name_text name ≡ true → procedure_line (name ∷ next ∷ more) ≡ numbers_line name (next ∷ more)
-    by next [] is = ap (λ (t : Bool). given (t && is_number next) (head_line name next None)) is
-    by next (results ∷ []) is = ap (λ (t : Bool). given (t && is_number next && is_number results) (head_line name next (Some results))) is
-    by next (results ∷ other ∷ more) is = refl
+procedure_named (word ∷ next ∷ []) name rest e =
+    let (is, first, others) = cut_is (is_name_text word) word name (next ∷ []) rest e in
+    ap (λ (t : Bool). given (t && is_number next) (head_line word next None)) is ∙ (λ i. numbers_line (first i) (others i))
+procedure_named (word ∷ next ∷ other ∷ []) name rest e =
+    let (is, first, others) = cut_is (is_name_text word) word name (next ∷ other ∷ []) rest e in
+    ap (λ (t : Bool). given (t && is_number next && is_number other) (head_line word next (Some other))) is ∙ (λ i. numbers_line (first i) (others i))
+procedure_named (word ∷ next ∷ other ∷ third ∷ more) name rest e = ap (numbers_line name) (cut_is (is_name_text word) word name (next ∷ other ∷ third ∷ more) rest e).2
+procedure_named (word ∷ []) name rest e = absurd (none-some (name, rest) e)
+procedure_named [] name rest e = absurd (none-some (name, rest) e)
 
 pub numbers_both : (name : List ℕ) (words : List (List ℕ)) (parameters : List ℕ) (rest : List (List ℕ)) → cut_word is_number words ≡ Some (parameters, rest)
     → numbers_line name words ≡ one is_number (λ results. head_line name parameters (Some results)) rest
-numbers_both name words parameters rest e =
-    let cut = cut_parts is_number words parameters rest e in
-    ap (numbers_line name) cut.whole ∙ by cut.next cut.more cut.holds ∙ ap (one is_number (λ results. head_line name parameters (Some results))) (sym cut.others)
-  where
-    by : (next : List ℕ) (more : List (List ℕ)) → is_number parameters ≡ true → numbers_line name (parameters ∷ next ∷ more) ≡ one is_number (λ results. head_line name parameters (Some results)) (next ∷ more)
-    by next [] is = ap (λ (t : Bool). given (t && is_number next) (head_line name parameters (Some next))) is
-    by next (other ∷ more) is = refl
+numbers_both name (word ∷ next ∷ []) parameters rest e =
+    let (is, first, others) = cut_is (is_number word) word parameters (next ∷ []) rest e in
+    ap (λ (t : Bool). given (t && is_number next) (head_line name word (Some next))) is ∙ (λ i. one is_number (λ results. head_line name (first i) (Some results)) (others i))
+numbers_both name _ parameters rest e = grind (arith, e)
 
 pub numbers_one : (name : List ℕ) (words : List (List ℕ)) → cut_word is_number words ≡ None → numbers_line name words ≡ one is_number (λ parameters. head_line name parameters None) words
-numbers_one name (word ∷ next ∷ []) e = by (is_number word) e
-  where
-    by : (t : Bool) → first_if t word (next ∷ []) ≡ None → given (t && is_number next) (head_line name word (Some next)) ≡ None
-    by true e = no_cut (word, next ∷ []) (sym e)
-    by false e = refl
+numbers_one name (word ∷ next ∷ []) e = grind (arith, e)
 numbers_one name _ e = refl
 
 -- Places
-
-module _ {A : Type 0} (is_so is_also is_last : List ℕ → Bool) (line : List ℕ → List ℕ → List ℕ → A) where
-  three_is : (x y z : List ℕ) → three is_so is_also is_last line (x ∷ y ∷ z ∷ []) ≡ given (is_so x && is_also y && is_last z) (line x y z)
-  three_is x y z = first (is_so x)
-    where
-      second : (t : Bool) → one is_last (line x y) (if t then z ∷ [] else []) ≡ given (t && is_last z) (line x y z)
-      second true = refl
-      second false = refl
-
-      first : (t : Bool) → two is_also is_last (line x) (if t then y ∷ z ∷ [] else []) ≡ given (t && is_also y && is_last z) (line x y z)
-      first true = second (is_also y)
-      first false = refl
-
-  -- too few words, and too many
-  three_of_one : (x : List ℕ) → three is_so is_also is_last line (x ∷ []) ≡ None
-  three_of_one x = by (is_so x)
-    where
-      by : (t : Bool) → two is_also is_last (line x) (if t then [] else []) ≡ None
-      by true = refl
-      by false = refl
-
-  three_of_two : (x y : List ℕ) → three is_so is_also is_last line (x ∷ y ∷ []) ≡ None
-  three_of_two x y = first (is_so x)
-    where
-      second : (t : Bool) → one is_last (line x y) (if t then [] else []) ≡ None
-      second true = refl
-      second false = refl
-
-      first : (t : Bool) → two is_also is_last (line x) (if t then y ∷ [] else []) ≡ None
-      first true = second (is_also y)
-      first false = refl
-
-  three_of_four : (x y z next : List ℕ) (more : List (List ℕ)) → three is_so is_also is_last line (x ∷ y ∷ z ∷ next ∷ more) ≡ None
-  three_of_four x y z next more = first (is_so x)
-    where
-      second : (t : Bool) → one is_last (line x y) (if t then z ∷ next ∷ more else []) ≡ None
-      second true = refl
-      second false = refl
-
-      first : (t : Bool) → two is_also is_last (line x) (if t then y ∷ z ∷ next ∷ more else []) ≡ None
-      first true = second (is_also y)
-      first false = refl
 
 -- the place in a tray with these forms
 abbrev pub on : List ℕ → List ℕ × List ℕ × List ℕ → PlaceWords
@@ -400,19 +258,34 @@ on tray forms = On tray forms.0 forms.1 forms.2
 abbrev pub three_forms : List (List ℕ) → Option (List ℕ × List ℕ × List ℕ)
 three_forms words = three is_form is_form is_form three_words words
 
+three_is : {A : Type 0} (is_so is_also is_last : List ℕ → Bool) (line : List ℕ → List ℕ → List ℕ → A) (x y z : List ℕ) → three is_so is_also is_last line (x ∷ y ∷ z ∷ []) ≡ given (is_so x && is_also y && is_last z) (line x y z)
+three_is is_so is_also is_last line x y z = grind arith
+
+-- two words are too few
+three_of_two : {A : Type 0} (is_so is_also is_last : List ℕ → Bool) (line : List ℕ → List ℕ → List ℕ → A) (x y : List ℕ) → three is_so is_also is_last line (x ∷ y ∷ []) ≡ None
+three_of_two is_so is_also is_last line x y = grind arith
+
+-- and four too many
+three_of_four : {A : Type 0} (is_so is_also is_last : List ℕ → Bool) (line : List ℕ → List ℕ → List ℕ → A) (x y z next : List ℕ) (more : List (List ℕ))
+    → three is_so is_also is_last line (x ∷ y ∷ z ∷ next ∷ more) ≡ None
+three_of_four is_so is_also is_last line x y z next more = grind arith
+
 pub place_cut : (words : List (List ℕ)) (tray : List ℕ) (rest : List (List ℕ)) → cut_word is_number words ≡ Some (tray, rest) → place_line words ≡ mapped (on tray) (three_forms rest)
-place_cut words tray rest e =
-    let cut = cut_parts is_number words tray rest e in
-    ap place_line cut.whole ∙ by cut.next cut.more cut.holds ∙ ap (λ (ws : List (List ℕ)). mapped (on tray) (three_forms ws)) (sym cut.others)
+place_cut (word ∷ next ∷ []) tray rest e = grind (arith, e)
+place_cut (word ∷ next ∷ y ∷ []) tray rest e =
+    ap (mapped (on tray)) (sym (three_of_two is_form is_form is_form three_words next y))
+    ∙ ap (λ (ws : List (List ℕ)). mapped (on tray) (three_forms ws)) (cut_is (is_number word) word tray (next ∷ y ∷ []) rest e).2
+place_cut (word ∷ next ∷ y ∷ z ∷ []) tray rest e =
+    let (is, first, others) = cut_is (is_number word) word tray (next ∷ y ∷ z ∷ []) rest e in
+    ap (λ (t : Bool). given (t && is_form next && is_form y && is_form z) (On word next y z)) is ∙ forms word next y z ∙ (λ i. mapped (on (first i)) (three_forms (others i)))
   where
-    by : (next : List ℕ) (more : List (List ℕ)) → is_number tray ≡ true → place_line (tray ∷ next ∷ more) ≡ mapped (on tray) (three_forms (next ∷ more))
-    by next [] is = ap (mapped (on tray)) (sym (three_of_one is_form is_form is_form three_words next))
-    by next (y ∷ []) is = ap (mapped (on tray)) (sym (three_of_two is_form is_form is_form three_words next y))
-    by next (y ∷ z ∷ []) is =
-        ap (λ (t : Bool). given (t && is_form next && is_form y && is_form z) (On tray next y z)) is
-        ∙ given_mapped (on tray) (is_form next && is_form y && is_form z) (next, y, z)
-        ∙ ap (mapped (on tray)) (sym (three_is is_form is_form is_form three_words next y z))
-    by next (y ∷ z ∷ other ∷ more) is = ap (mapped (on tray)) (sym (three_of_four is_form is_form is_form three_words next y z other more))
+    forms : (word x y z : List ℕ) → given (is_form x && is_form y && is_form z) (On word x y z) ≡ mapped (on word) (three_forms (x ∷ y ∷ z ∷ []))
+    forms word x y z = given_mapped (on word) (is_form x && is_form y && is_form z) (x, y, z) ∙ ap (mapped (on word)) (sym (three_is is_form is_form is_form three_words x y z))
+place_cut (word ∷ next ∷ y ∷ z ∷ other ∷ more) tray rest e =
+    ap (mapped (on tray)) (sym (three_of_four is_form is_form is_form three_words next y z other more))
+    ∙ ap (λ (ws : List (List ℕ)). mapped (on tray) (three_forms ws)) (cut_is (is_number word) word tray (next ∷ y ∷ z ∷ other ∷ more) rest e).2
+place_cut (word ∷ []) tray rest e = absurd (none-some (tray, rest) e)
+place_cut [] tray rest e = absurd (none-some (tray, rest) e)
 
 -- neither `apart` nor a number with others after it
 pub place_none : (bytes : List ℕ) → bytes ≢ codes "apart" → cut_word is_number (words_of bytes) ≡ None → place_line (words_of bytes) ≡ None
@@ -428,47 +301,25 @@ place_none bytes differs e =
         subst (Lacks 32) (sym ((bytes_eq-Decides word (codes "apart")).0 h))
         (λ e. omega (arith, e), (λ e. omega (arith, e), (λ e. omega (arith, e), (λ e. omega (arith, e), (λ e. omega (arith, e), tt)))))
 
-    not_apart : (word : List ℕ) (t : Bool) → given t word ≡ None → given t Apart ≡ None
-    not_apart word true e = absurd (not_both word e)
-    not_apart word false e = refl
-
-    no_tray : (tray x y z : List ℕ) (t : Bool) → first_if t tray (x ∷ y ∷ z ∷ []) ≡ None → given (t && is_form x && is_form y && is_form z) (On tray x y z) ≡ None
-    no_tray tray x y z true e = no_cut (tray, x ∷ y ∷ z ∷ []) (sym e)
-    no_tray tray x y z false e = refl
-
     by : (words : List (List ℕ)) → one is_apart (λ w. w) words ≡ None → cut_word is_number words ≡ None → place_line words ≡ None
-    by (word ∷ []) none e = not_apart word (is_apart word) none
-    by (tray ∷ x ∷ y ∷ z ∷ []) none e = no_tray tray x y z (is_number tray) e
+    by (word ∷ []) none e = grind (arith, none)
+    by (tray ∷ x ∷ y ∷ z ∷ []) none e = grind (arith, e)
     by _ none e = refl
 
 -- no number with a word after it
 pub piece_none : (words : List (List ℕ)) → cut_word is_number words ≡ None → piece_line words ≡ None
-piece_none (piece ∷ word ∷ []) e = by (is_number piece) e
-  where
-    by : (t : Bool) → first_if t piece (word ∷ []) ≡ None → given (t && bytes_eq word (codes "apart")) (at_line piece Apart) ≡ None
-    by true e = no_cut (piece, word ∷ []) (sym e)
-    by false e = refl
-piece_none (piece ∷ tray ∷ x ∷ y ∷ z ∷ []) e = by (is_number piece) e
-  where
-    by : (t : Bool) → first_if t piece (tray ∷ x ∷ y ∷ z ∷ []) ≡ None → given (t && is_number tray && is_form x && is_form y && is_form z) (at_line piece (On tray x y z)) ≡ None
-    by true e = no_cut (piece, tray ∷ x ∷ y ∷ z ∷ []) (sym e)
-    by false e = refl
+piece_none (piece ∷ word ∷ []) e = grind (arith, e)
+piece_none (piece ∷ tray ∷ x ∷ y ∷ z ∷ []) e = grind (arith, e)
 piece_none _ e = refl
 
 -- a piece's number, and its place
 pub piece_cut : (words : List (List ℕ)) (piece : List ℕ) (rest : List (List ℕ)) → cut_word is_number words ≡ Some (piece, rest) → piece_line words ≡ mapped (at_line piece) (place_line rest)
-piece_cut words piece rest e =
-    let cut = cut_parts is_number words piece rest e in
-    ap piece_line cut.whole ∙ by cut.next cut.more cut.holds ∙ ap (λ (ws : List (List ℕ)). mapped (at_line piece) (place_line ws)) (sym cut.others)
-  where
-    by : (next : List ℕ) (more : List (List ℕ)) → is_number piece ≡ true → piece_line (piece ∷ next ∷ more) ≡ mapped (at_line piece) (place_line (next ∷ more))
-    by next [] is =
-        ap (λ (t : Bool). given (t && bytes_eq next (codes "apart")) (at_line piece Apart)) is
-        ∙ given_mapped (at_line piece) (bytes_eq next (codes "apart")) Apart
-    by next (x ∷ y ∷ z ∷ []) is =
-        ap (λ (t : Bool). given (t && is_number next && is_form x && is_form y && is_form z) (at_line piece (On next x y z))) is
-        ∙ given_mapped (at_line piece) (is_number next && is_form x && is_form y && is_form z) (On next x y z)
-    by next _ is = refl
+piece_cut (word ∷ next ∷ []) piece rest e = grind (arith, e)
+piece_cut (word ∷ next ∷ x ∷ y ∷ z ∷ []) piece rest e =
+    let (is, first, others) = cut_is (is_number word) word piece (next ∷ x ∷ y ∷ z ∷ []) rest e in
+    ap (λ (t : Bool). given (t && is_number next && is_form x && is_form y && is_form z) (at_line word (On next x y z))) is
+    ∙ given_mapped (at_line word) (is_number next && is_form x && is_form y && is_form z) (On next x y z) ∙ (λ i. mapped (at_line (first i)) (place_line (others i)))
+piece_cut _ piece rest e = grind (arith, e)
 
 -- Lines whose words are read by a function of their own
 

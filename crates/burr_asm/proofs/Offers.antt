@@ -1,8 +1,9 @@
 -- The labels of a `pick`, counted and tested one by one.
-use Rattle.std.proofs.Common.{◌≡◌, ℕ, ◌+◌, ◌≤◌, List, length, Bool, true, false, Contains, refl, sym, ap, ◌∙◌, arith, leb-true}
+use Rattle.std.proofs.Common.{◌≡◌, ℕ, ◌+◌, ◌≤◌, List, length, Bool, true, false, Contains, refl, sym, ap, ◌∙◌, arith}
 use Rattle.std.specs.Prelude.{◌&&◌, nat_le}
 use Rattle.std.specs.Bool.{then_some}
 use Rattle.std.specs.List.{list_all}
+use Rattle.std.proofs.lemmas.Bool.{and_left, and_right, lt-leb}
 use Rattle.burr_text.specs.Words.{IsCutAt}
 use Rattle.burr_container.specs.Rules.Fitting.{is_name_text}
 use Rattle.burr_plantext.specs.Rules.Texts.{words_of}
@@ -23,18 +24,10 @@ some_words bytes = let some = some_pieces 32 bytes in let e = ap (λ (ps : List 
 -- words that are not at most 8 names
 
 pub too_many : (words : List (List ℕ)) → 9 ≤ length words → are_few_names words ≡ false
-too_many words h = by (nat_le (length words) 8) refl
-  where
-    by : (t : Bool) → nat_le (length words) 8 ≡ t → (t && list_all is_name_text words) ≡ false
-    by true e = absurd (let few = leb-true (length words) 8 e in omega arith)
-    by false e = refl
+too_many words h = and_left (nat_le (length words) 8) (list_all is_name_text words) (lt-leb (length words) 8 (omega arith))
 
 pub not_names : (words : List (List ℕ)) → list_all is_name_text words ≡ false → are_few_names words ≡ false
-not_names words e = ap (λ (t : Bool). nat_le (length words) 8 && t) e ∙ by (nat_le (length words) 8)
-  where
-    by : (t : Bool) → (t && false) ≡ false
-    by true = refl
-    by false = refl
+not_names words e = and_right (nat_le (length words) 8) (list_all is_name_text words) e
 
 -- where the first of the words that are left is no name
 pub no_name_next : (bytes rest front more : List ℕ) (t : Bool) → list_all is_name_text (words_of bytes) ≡ list_all is_name_text (words_of rest)

@@ -1,5 +1,5 @@
 -- Operands that the code has cut off, one by one, are those that the rules test.
-use Rattle.std.proofs.Common.{◌≡◌, ℕ, List, [], ◌∷◌, Bool, true, false, IsTrue, refl, sym, ap, ◌∙◌}
+use Rattle.std.proofs.Common.{◌≡◌, ℕ, List, [], ◌∷◌, Bool, true, false, IsTrue, refl, sym, ap, ◌∙◌, arith}
 use Rattle.std.specs.Prelude.{Option, Some, None, if◌then◌else◌}
 use Rattle.burr_text.proofs.Common.Cuts.{Lacks}
 use Rattle.burr_plantext.specs.Rules.Operands.{given, one, two, three}
@@ -15,16 +15,8 @@ module _ {A : Type 0} (is_so is_also : List ℕ → Bool) (line : List ℕ → L
 
   two_cut : (words : List (List ℕ)) → two is_so is_also line words ≡ then_one (cut_word is_so words)
   two_cut [] = refl
-  two_cut (word ∷ []) = by (is_so word)
-    where
-      by : (t : Bool) → one is_also (line word) (if t then [] else []) ≡ None
-      by true = refl
-      by false = refl
-  two_cut (word ∷ next ∷ words) = by (is_so word)
-    where
-      by : (t : Bool) → one is_also (line word) (if t then next ∷ words else []) ≡ then_one (if t then Some (word, next ∷ words) else None)
-      by true = refl
-      by false = refl
+  two_cut (word ∷ []) = grind arith
+  two_cut (word ∷ next ∷ words) = grind arith
 
   pub two_none : (words : List (List ℕ)) → cut_word is_so words ≡ None → two is_so is_also line words ≡ None
   two_none words e = two_cut words ∙ ap then_one e
@@ -40,16 +32,8 @@ module _ {A : Type 0} (is_so is_also is_last : List ℕ → Bool) (line : List �
 
   three_cut : (words : List (List ℕ)) → three is_so is_also is_last line words ≡ then_two (cut_word is_so words)
   three_cut [] = refl
-  three_cut (word ∷ []) = by (is_so word)
-    where
-      by : (t : Bool) → two is_also is_last (line word) (if t then [] else []) ≡ None
-      by true = refl
-      by false = refl
-  three_cut (word ∷ next ∷ words) = by (is_so word)
-    where
-      by : (t : Bool) → two is_also is_last (line word) (if t then next ∷ words else []) ≡ then_two (if t then Some (word, next ∷ words) else None)
-      by true = refl
-      by false = refl
+  three_cut (word ∷ []) = grind arith
+  three_cut (word ∷ next ∷ words) = grind arith
 
   pub three_none : (words : List (List ℕ)) → cut_word is_so words ≡ None → three is_so is_also is_last line words ≡ None
   three_none words e = three_cut words ∙ ap then_two e

@@ -62,11 +62,7 @@ module _ (text rest : List ℕ) (line : ℕ) (k : Cursor) (found : List (PlanPar
     where
       none : (w : List ℕ) → walk k (last_line line w) ≡ []
       none [] = refl
-      none (b ∷ w) = by (is_skipped (b ∷ w))
-        where
-          by : (t : Bool) → walk k ((line, (if t then Broken else Unread (first_word (b ∷ w)))) ∷ []) ≡ []
-          by true = refl
-          by false = refl
+      none (b ∷ w) = grind arith
 
   module _ (bytes more : List ℕ) (cut : IsCutAt 10 rest bytes more) where
     abbrev rest_of : List (ℕ × LineRead)

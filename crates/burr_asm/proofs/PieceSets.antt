@@ -1,5 +1,5 @@
 -- The set of a word, number by number.
-use Rattle.std.proofs.Common.{◌≡◌, ℕ, suc, ◌+◌, ◌*◌, ◌%◌, ◌^◌, ◌<◌, ◌≤◌, List, [], ◌∷◌, Bool, true, false, not, IsTrue, sym, ap, subst, ◌∙◌, arith, leb-true, ltb-true, one-mul, zero-mul, mod-eq_of_lt}
+use Rattle.std.proofs.Common.{◌≡◌, ℕ, suc, ◌+◌, ◌*◌, ◌%◌, ◌^◌, ◌<◌, ◌≤◌, List, [], ◌∷◌, Bool, true, false, not, IsTrue, refl, sym, ap, subst, ◌∙◌, arith, leb-true, ltb-true, one-mul, zero-mul, mod-eq_of_lt}
 use Rattle.std.specs.Prelude.{bit_or, ◌&&◌, nat_le, nat_lt, codes, if◌then◌else◌}
 use Rattle.std.specs.List.{list_all}
 use Rattle.std.specs.Str.{bytes_eq}
@@ -31,23 +31,15 @@ pub record IsSetWalk (bound : ℕ) (word : List ℕ) (set least : ℕ) (rest : L
   pub test : are_members 0 bound (pieces 44 word) ≡ are_members least bound (pieces 44 rest)
   pub value : set_of (pieces 44 word) ≡ set + set_of (pieces 44 rest)
 
-pub set_begins : (bound : ℕ) (word rest dash : List ℕ) → rest ≡ word → IsTrue (is_set word) → dash ≡ codes "-" → false ≡ bytes_eq rest dash → IsSetWalk bound word 0 0 rest
-set_begins bound word rest dash same h is_dash e =
-    let listed : set_numbers word ≡ pieces 44 word =
-    ap (λ (t : Bool). if t then [] else pieces 44 word) ((λ i. bytes_eq (sym same i) (sym is_dash i)) ∙ sym e) in
-    record {
-      listed = listed;
-      numbers = ap (λ (w : List ℕ). list_all is_number (pieces 44 w)) same ∙ ap (λ (ps : List (List ℕ)). list_all is_number ps) (sym listed) ∙ h;
-      few = pow_pos 0;
-      test = ap (λ (w : List ℕ). are_members 0 bound (pieces 44 w)) (sym same);
-      value = let e = ap (λ (w : List ℕ). set_of (pieces 44 w)) same in omega (arith, e);
-    }
+pub set_begins : (bound : ℕ) (word dash : List ℕ) → IsTrue (is_set word) → dash ≡ codes "-" → false ≡ bytes_eq word dash → IsSetWalk bound word 0 0 word
+set_begins bound word dash h is_dash e =
+    let listed : set_numbers word ≡ pieces 44 word = ap (λ (t : Bool). if t then [] else pieces 44 word) (ap (bytes_eq word) (sym is_dash) ∙ sym e) in
+    record { listed = listed; numbers = ap (list_all is_number) (sym listed) ∙ h; few = pow_pos 0; test = refl; value = omega arith }
 
 -- the word of no pieces
-pub no_pieces : (bound : ℕ) (word rest dash : List ℕ) → rest ≡ word → dash ≡ codes "-" → true ≡ bytes_eq rest dash → (are_members 0 bound (set_numbers word) ≡ true) × (0 ≡ set_in word)
-no_pieces bound word rest dash same is_dash e =
-    let none : set_numbers word ≡ [] =
-    ap (λ (t : Bool). if t then [] else pieces 44 word) ((λ i. bytes_eq (sym same i) (sym is_dash i)) ∙ sym e) in
+pub no_pieces : (bound : ℕ) (word dash : List ℕ) → dash ≡ codes "-" → true ≡ bytes_eq word dash → (are_members 0 bound (set_numbers word) ≡ true) × (0 ≡ set_in word)
+no_pieces bound word dash is_dash e =
+    let none : set_numbers word ≡ [] = ap (λ (t : Bool). if t then [] else pieces 44 word) (ap (bytes_eq word) (sym is_dash) ∙ sym e) in
     (ap (are_members 0 bound) none, sym (ap set_of none))
 
 -- a member is below 32
@@ -55,8 +47,7 @@ pub member_few : (least bound piece : ℕ) (number front : List ℕ) → number 
 member_few least bound piece number front same is value low =
     let tests = and_parts (is_below bound number) (nat_le least (natural_in number)) is in
     let below = and_parts (not (starts_with_minus number)) (nat_lt (natural_in number) bound) tests.0 in
-    let few = ltb-true (natural_in number) bound below.1 in
-    omega (arith, value, few, low)
+    omega (arith, value, ltb-true (natural_in number) bound below.1, low)
 
 -- and is this set with one piece more, which is above all others
 pub next_set : (set least piece : ℕ) → set < 2 ^ least → least ≤ piece → piece < 32 → bit_or set (1 * 2 ^ piece % 4294967296) ≡ set + 2 ^ piece

@@ -37,9 +37,7 @@ pub record IsReading (text rest : List ℕ) (line : ℕ) (f : Front) : Type 0 wh
 -- each line has its end
 pub line_ends : (text rest bytes more : List ℕ) (line : ℕ) → IsCutAt 10 rest bytes more → line + length rest ≤ length text + 1 → (line + 1) + length more ≤ length text + 1
 line_ends text rest bytes more line cut h =
-    let size = ap (λ (w : List ℕ). length w) cut.parts in
-    let both = length-append bytes (10 ∷ more) in
-    omega (arith, size, both, h)
+    omega (arith, ap (λ (w : List ℕ). length w) cut.parts, length-append bytes (10 ∷ more), h)
 
 pub nothing_read : (text : List ℕ) (f : Front) → f ≡ AwaitsPlan → IsReading text text 1 f
 nothing_read text f due =

@@ -12,6 +12,7 @@ use Rattle.burr_plantext.specs.Rules.Written.{natural_in, is_below, are_ends, sl
 use Rattle.burr_plantext.specs.Rules.Lines.{SlotWords}
 use Rattle.burr_plantext.specs.Rules.Meaning.{range_in, slot_in, slots_in}
 use Rattle.burr_asm.specs.Views.Frames.{is_slot_above, IsSlotAbove}
+use Rattle.burr_asm.proofs.Numbers.{found_if}
 
 -- the slot is one of the eight
 abbrev pub is_slot : SlotWords → Bool
@@ -59,15 +60,8 @@ abbrev is_before : ℕ → ℕ → Bool
 is_before n m = not (is_one_of m (drop n slot_numbers))
 
 before_is : (n m : ℕ) → n < 8 → m < 8 → is_before n m ≡ nat_lt m n
-before_is zero m l few = agree_below_at (is_before 0) (λ (k : ℕ). nat_lt k 0) 8 m refl few
-before_is (suc zero) m l few = agree_below_at (is_before 1) (λ (k : ℕ). nat_lt k 1) 8 m refl few
-before_is (suc (suc zero)) m l few = agree_below_at (is_before 2) (λ (k : ℕ). nat_lt k 2) 8 m refl few
-before_is (suc (suc (suc zero))) m l few = agree_below_at (is_before 3) (λ (k : ℕ). nat_lt k 3) 8 m refl few
-before_is (suc (suc (suc (suc zero)))) m l few = agree_below_at (is_before 4) (λ (k : ℕ). nat_lt k 4) 8 m refl few
-before_is (suc (suc (suc (suc (suc zero))))) m l few = agree_below_at (is_before 5) (λ (k : ℕ). nat_lt k 5) 8 m refl few
-before_is (suc (suc (suc (suc (suc (suc zero)))))) m l few = agree_below_at (is_before 6) (λ (k : ℕ). nat_lt k 6) 8 m refl few
-before_is (suc (suc (suc (suc (suc (suc (suc zero))))))) m l few = agree_below_at (is_before 7) (λ (k : ℕ). nat_lt k 7) 8 m refl few
 before_is (suc (suc (suc (suc (suc (suc (suc (suc n)))))))) m l few = absurd (omega arith)
+before_is n m l few = agree_below_at (is_before n) (λ (k : ℕ). nat_lt k n) 8 m refl few
 
 -- what is one of the eight slots has a number below eight
 pub slot_below : (s : SlotWords) → is_slot s ≡ true → natural_in s.slot < 8
@@ -122,17 +116,9 @@ eight xs long = absurd (omega arith)
 -- A slot and a range that were read, by the test of the slots from there on.
 pub found_above : (slots : List (Option Range)) (s : SlotWords) (test : Bool) (n : ℕ) (r : Range) → is_slot s ≡ true → n ≡ natural_in s.slot
     → are_ends s.ends.low s.ends.high ≡ true → r ≡ range_in s.ends → test ≡ list_all is_none (drop n slots) → IsSlotAbove slots s (then_some test (n, r))
-found_above slots s test n r slot n_is ends r_is test_is = by test unused
-  where
-    all : (b : Bool) → list_all is_none (drop (natural_in s.slot) slots) ≡ b → is_slot_above slots s ≡ b
-    all b e = (λ i. slot i && ends i && e i)
-
-    unused : is_slot_above slots s ≡ test
-    unused = all test (ap (λ (k : ℕ). list_all is_none (drop k slots)) (sym n_is) ∙ sym test_is)
-
-    by : (b : Bool) → is_slot_above slots s ≡ b → IsSlotAbove slots s (then_some b (n, r))
-    by true e = (e, λ i. (n_is i, r_is i))
-    by false e = e
+found_above slots s test n r slot n_is ends r_is test_is =
+    found_if test (is_slot_above slots s) (n, r) (λ f. f ≡ (natural_in s.slot, range_in s.ends))
+    ((λ i. slot i && ends i && list_all is_none (drop (sym n_is i) slots)) ∙ sym test_is) (λ i. (n_is i, r_is i))
 
 -- no slot is live where a test of liveness finds none
 none_live : (is : Bool → Bool) → is true ≡ true → is false ≡ false → (xs : List (Option Range)) → not (list_any is (map is_some xs)) ≡ list_all is_none xs

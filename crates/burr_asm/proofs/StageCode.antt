@@ -1,6 +1,6 @@
 -- What the code makes of a line after a frame, or of the first label, is what the rules say.
 use Rattle.std.proofs.Common.{◌≡◌, inr, ℕ, suc, Bool, true, false, true≢false, List, [], ◌∷◌, ◌++◌, Option, None, refl, sym, ap, subst, ◌∙◌}
-use Rattle.std.specs.Prelude.{nat_le, Ok, Err}
+use Rattle.std.specs.Prelude.{nat_le, Result, Ok, Err, MatchResult}
 use Rattle.std.specs.Borrow.{Bor}
 use Rattle.burr_code.specs.declared.limits.TheConstants.{MOST_CODE}
 use Rattle.burr_plantext.specs.Rules.Statements.{Statement}
@@ -25,7 +25,7 @@ use Rattle.burr_asm.specs.Views.Fronts.{start_of, within_one}
 use Rattle.burr_asm.specs.Views.Steps.{GivesInAny}
 use Rattle.burr_asm.proofs.StagePlaces.{with_code}
 use Rattle.burr_asm.proofs.StageLabels.{size_with, first_refusal, later_refusal, passed_label}
-use Rattle.burr_asm.proofs.StageLines.{refused_by, passes, under_label, after_code}
+use Rattle.burr_asm.proofs.StageLines.{giving, judge, under_label, after_code}
 
 -- After a frame
 
@@ -37,127 +37,70 @@ code_check old blocks b w e =
     let sum = size_with blocks b w old.code.size e in
     λ j. unless (is_in_range w) P3 (unless (nat_le (sum j) MOST_CODE) P4 None)
 
--- a line of code that is refused
-pub code_refused : (old new : RoutineParts) (w : Statement) (n : ℕ) (e : AsmFault)
-    → IsRefusal (code_refusal old.code w) n e
-    → GivesInAny InCode old (CodeLine w) n new (Err e)
-code_refused old new w n e fails number place u (rules.InCode exit blocks b) line at =
-    let check = code_check old blocks b w at.routine.size in
-    refused_by number place n (statement_check blocks b.code w) (Within u (rules.InCode exit blocks (with_code b w))) e line
-    (subst (λ (c : Option FaultKind). IsRefusal c n e) check fails)
-code_refused old new w n e fails number place u t line at = absurd at
-
 -- a line of code
-pub code_added : (old new : RoutineParts) (w : Statement) (n : ℕ)
-    → code_refusal old.code w ≡ None → new ≡ record old { code = with_statement old.code n w }
-    → GivesInAny InCode old (CodeLine w) n new (Ok InCode)
-code_added old new w n none is number place u (rules.InCode exit blocks b) line at =
-    let passed : statement_check blocks b.code w ≡ None =
-    sym (code_check old blocks b w at.routine.size) ∙ none in (
-      rules.InCode exit blocks (with_code b w),
-      passes place (statement_check blocks b.code w) (Within u (rules.InCode exit blocks (with_code b w))) passed,
-      subst (λ (r : RoutineParts). AfterFrame number (suc place) (start_of u) u.title.version r u.head exit blocks (with_code b w)) (sym is)
-          (after_code number place (start_of u) u.title.version old u.head exit blocks b n w at line),
-    )
-code_added old new w n none is number place u t line at = absurd at
+pub code_given : {A : Type 0} (old new : RoutineParts) (w : Statement) (n : ℕ)
+    (result : Result A AsmFault)
+    → MatchResult result (λ done. (code_refusal old.code w ≡ None)
+    × (new ≡ record old { code = with_statement old.code n w })) (IsRefusal (code_refusal old.code w) n)
+    → GivesInAny InCode old (CodeLine w) n new (giving (λ x. InCode) result)
+code_given old new w n result h number place u (rules.InCode exit blocks b) line at =
+    judge number place n u new (code_refusal old.code w) (statement_check blocks b.code w) (λ x. InCode) (rules.InCode exit blocks (with_code b w))
+    (λ x. new ≡ record old { code = with_statement old.code n w }) result line (code_check old blocks b w at.routine.size) h
+    (λ x passed is. subst (λ (r : RoutineParts). AfterFrame number (suc place) (start_of u) u.title.version r u.head exit blocks (with_code b w)) (sym is)
+    (after_code number place (start_of u) u.title.version old u.head exit blocks b n w at line))
+code_given old new w n result h number place u t line at = absurd at
 
--- a label that is refused
-pub label_refused : (old new : RoutineParts) (name : List ℕ) (n : ℕ) (e : AsmFault)
-    → IsRefusal (label_refusal old name) n e
-    → GivesInAny InCode old (LabelLine name) n new (Err e)
-label_refused old new name n e fails number place u (rules.InCode exit blocks b) line at =
-    let check = later_refusal old blocks b name at.names at.routine.labels at.routine.size at.full in
-    refused_by number place n (label_check (blocks ++ b ∷ []) name) (Within u (rules.AwaitsFrame exit (blocks ++ b ∷ []) name)) e line
-    (subst (λ (c : Option FaultKind). IsRefusal c n e) check fails)
-label_refused old new name n e fails number place u t line at = absurd at
+-- what the code says of a label
+abbrev pub IsLabelled : {A : Type 0} → RoutineParts → RoutineParts → List ℕ → ℕ → Result A AsmFault → Type 0
+IsLabelled old new name n result =
+    MatchResult result (λ done. (label_refusal old name ≡ None) × (new ≡ with_label old name n)) (IsRefusal (label_refusal old name) n)
 
 -- a label
-pub label_added : (old new : RoutineParts) (name : List ℕ) (n : ℕ)
-    → label_refusal old name ≡ None → new ≡ with_label old name n
-    → GivesInAny InCode old (LabelLine name) n new (Ok AwaitsFrame)
-label_added old new name n none is number place u (rules.InCode exit blocks b) line at =
+pub label_given : {A : Type 0} (old new : RoutineParts) (name : List ℕ) (n : ℕ) (result : Result A AsmFault)
+    → IsLabelled old new name n result
+    → GivesInAny InCode old (LabelLine name) n new (giving (λ x. AwaitsFrame) result)
+label_given old new name n result h number place u (rules.InCode exit blocks b) line at =
     let before = blocks ++ b ∷ [] in
-    let check = later_refusal old blocks b name at.names at.routine.labels at.routine.size at.full in
-    let passed : label_check before name ≡ None = sym check ∙ none in (
-      rules.AwaitsFrame exit before name,
-      passes place (label_check before name) (Within u (rules.AwaitsFrame exit before name)) passed,
-      subst (λ (r : RoutineParts). UnderLabel number (suc place) (start_of u) u.title.version r u.head exit before name 1) (sym is)
-          (under_label number place (start_of u) u.title.version old u.head exit before name n at.routine (passed_label before name passed) at.names line at.next),
-    )
-label_added old new name n none is number place u t line at = absurd at
+    judge number place n u new (label_refusal old name) (label_check before name) (λ x. AwaitsFrame) (rules.AwaitsFrame exit before name) (λ x. new ≡ with_label old name n) result line
+    (later_refusal old blocks b name at.names at.routine.labels at.routine.size at.full) h
+    (λ x passed is. subst (λ (r : RoutineParts). UnderLabel number (suc place) (start_of u) u.title.version r u.head exit before name 1) (sym is)
+    (under_label number place (start_of u) u.title.version old u.head exit before name n at.routine (passed_label before name passed) at.names line at.next))
+label_given old new name n result h number place u t line at = absurd at
 
--- lines that may stand after a frame where no other procedure may begin
-abbrev pub may_follow : Line → Bool
-may_follow (CodeLine s) = true
-may_follow (LabelLine name) = true
-may_follow line = false
-
-none_follows : (place : ℕ) (u : OpenProcedure) (exit : Option ExitSource) (blocks : List Block)
-    (b : Block) (line : Line) → may_follow line ≡ false
-    → within_one place u (rules.InCode exit blocks b) line ≡ Err (P1, place)
-none_follows place u exit blocks b (CodeLine s) e = absurd (true≢false e)
-none_follows place u exit blocks b (LabelLine name) e = absurd (true≢false e)
-none_follows place u exit blocks b line e = refl
-
--- another line
-pub other_follows : (old new : RoutineParts) (line : Line) (n : ℕ) → may_follow line ≡ false
-    → GivesInAny InCode old line n new (Err (fault.P1 n))
-other_follows old new line n other number place u (rules.InCode exit blocks b) is at =
-    inr ((P1, place), none_follows place u exit blocks b line other, ap fault.P1 is)
-other_follows old new line n other number place u t is at = absurd at
+-- another line after a frame
+pub other_follows : (f : LineForm) (old new : RoutineParts) (n : ℕ)
+    → ((x : CodeWords) → f ≡ form.Code x → ⊥) → ((x : Bor (List ℕ)) → f ≡ form.Label x → ⊥)
+    → GivesInAny InCode old (line_words f) n new (Err (fault.P1 n))
+other_follows f old new n no_code no_label number place u (rules.InCode exit blocks b) is at =
+    inr ((P1, place), by f no_code no_label, ap fault.P1 is)
+  where
+    by : (f : LineForm) → ((x : CodeWords) → f ≡ form.Code x → ⊥) → ((x : Bor (List ℕ)) → f ≡ form.Label x → ⊥)
+        → within_one place u (rules.InCode exit blocks b) (line_words f) ≡ Err (P1, place)
+    by (form.Code x) h k = absurd (h x refl)
+    by (form.Label x) h k = absurd (k x refl)
+    by f h k = refl
+other_follows f old new n no_code no_label number place u t is at = absurd at
 
 -- The first label
 
--- a first label that is refused
-pub first_refused : (old new : RoutineParts) (name : List ℕ) (n : ℕ) (e : AsmFault)
-    → IsRefusal (label_refusal old name) n e
-    → GivesInAny AwaitsLabel old (LabelLine name) n new (Err e)
-first_refused old new name n e fails number place u (rules.AwaitsLabel exit) line at =
-    let check = first_refusal old name at.names at.routine.labels in
-    refused_by number place n (label_check [] name) (Within u (rules.AwaitsFrame exit [] name)) e line
-    (subst (λ (c : Option FaultKind). IsRefusal c n e) check fails)
-first_refused old new name n e fails number place u t line at = absurd at
-
--- a first label
-pub first_added : (old new : RoutineParts) (name : List ℕ) (n : ℕ)
-    → label_refusal old name ≡ None → new ≡ with_label old name n
-    → GivesInAny AwaitsLabel old (LabelLine name) n new (Ok AwaitsFrame)
-first_added old new name n none is number place u (rules.AwaitsLabel exit) line at =
-    let check = first_refusal old name at.names at.routine.labels in (
-      rules.AwaitsFrame exit [] name,
-      passes place (label_check [] name) (Within u (rules.AwaitsFrame exit [] name)) (sym check ∙ none),
-      subst (λ (r : RoutineParts). UnderLabel number (suc place) (start_of u) u.title.version r u.head exit [] name 1) (sym is)
-          (under_label number place (start_of u) u.title.version old u.head exit [] name n at.routine refl at.names line at.next),
-    )
-first_added old new name n none is number place u t line at = absurd at
-
--- the line is that of a label
-abbrev pub is_label : Line → Bool
-is_label (LabelLine name) = true
-is_label line = false
-
-none_first : (place : ℕ) (u : OpenProcedure) (exit : Option ExitSource) (line : Line)
-    → is_label line ≡ false
-    → within_one place u (rules.AwaitsLabel exit) line ≡ Err (P5, place)
-none_first place u exit (LabelLine name) e = absurd (true≢false e)
-none_first place u exit line e = refl
+pub first_given : {A : Type 0} (old new : RoutineParts) (name : List ℕ) (n : ℕ) (result : Result A AsmFault)
+    → IsLabelled old new name n result
+    → GivesInAny AwaitsLabel old (LabelLine name) n new (giving (λ x. AwaitsFrame) result)
+first_given old new name n result h number place u (rules.AwaitsLabel exit) line at =
+    judge number place n u new (label_refusal old name) (label_check [] name) (λ x. AwaitsFrame) (rules.AwaitsFrame exit [] name) (λ x. new ≡ with_label old name n) result line
+    (first_refusal old name at.names at.routine.labels) h
+    (λ x passed is. subst (λ (r : RoutineParts). UnderLabel number (suc place) (start_of u) u.title.version r u.head exit [] name 1) (sym is)
+    (under_label number place (start_of u) u.title.version old u.head exit [] name n at.routine refl at.names line at.next))
+first_given old new name n result h number place u t line at = absurd at
 
 -- another line, where the first label is due
-pub other_first : (old new : RoutineParts) (line : Line) (n : ℕ) → is_label line ≡ false
-    → GivesInAny AwaitsLabel old line n new (Err (fault.P5 n))
-other_first old new line n other number place u (rules.AwaitsLabel exit) is at =
-    inr ((P5, place), none_first place u exit line other, ap fault.P5 is)
-other_first old new line n other number place u t is at = absurd at
-
--- Forms of the code that are not of a kind: their lines are not, either
-
-pub no_code_or_label : (f : LineForm) → ((x : CodeWords) → f ≡ form.Code x → ⊥)
-    → ((x : Bor (List ℕ)) → f ≡ form.Label x → ⊥) → may_follow (line_words f) ≡ false
-no_code_or_label (form.Code x) h k = absurd (h x refl)
-no_code_or_label (form.Label x) h k = absurd (k x refl)
-no_code_or_label f h k = refl
-
-pub no_label : (f : LineForm) → ((x : Bor (List ℕ)) → f ≡ form.Label x → ⊥)
-    → is_label (line_words f) ≡ false
-no_label (form.Label x) h = absurd (h x refl)
-no_label f h = refl
+pub other_first : (f : LineForm) (old new : RoutineParts) (n : ℕ)
+    → ((x : Bor (List ℕ)) → f ≡ form.Label x → ⊥)
+    → GivesInAny AwaitsLabel old (line_words f) n new (Err (fault.P5 n))
+other_first f old new n other number place u (rules.AwaitsLabel exit) is at =
+    inr ((P5, place), by f other, ap fault.P5 is)
+  where
+    by : (f : LineForm) → ((x : Bor (List ℕ)) → f ≡ form.Label x → ⊥) → within_one place u (rules.AwaitsLabel exit) (line_words f) ≡ Err (P5, place)
+    by (form.Label x) h = absurd (h x refl)
+    by f h = refl
+other_first f old new n other number place u t is at = absurd at

@@ -1,6 +1,6 @@
 -- What the code makes of a line of an exit frame is what the rules say.
 use Rattle.std.proofs.Common.{◌≡◌, inr, ℕ, suc, ◌+◌, ◌≤◌, ◌==◌, Bool, true, false, true≢false, List, [], ◌∷◌, length, Option, Some, None, refl, sym, ap, subst, ◌∙◌, arith}
-use Rattle.std.specs.Prelude.{◌&&◌, nat_lt, Ok, Err, if◌then◌else◌}
+use Rattle.std.specs.Prelude.{◌&&◌, nat_lt, Result, Ok, Err, MatchResult, if◌then◌else◌}
 use Rattle.std.proofs.lemmas.Bool.{and_parts, eqb-true}
 use Rattle.std.proofs.lemmas.Option.{none-some}
 use Rattle.burr_code.specs.declared.limits.TheConstants.{MOST_GUARDS}
@@ -28,50 +28,37 @@ use Rattle.burr_asm.specs.Views.Beginnings.{BeforeLabels, lines_of}
 use Rattle.burr_asm.specs.Views.Fronts.{start_of, within_one}
 use Rattle.burr_asm.specs.Views.Steps.{GivesStage}
 use Rattle.burr_asm.proofs.StagePlaces.{exit_length, one_longer}
-use Rattle.burr_asm.proofs.StageLines.{grip_check_is, whole_is, refused, refused_by, given, passes, before_more, before_labels}
+use Rattle.burr_asm.proofs.StageLines.{grip_check_is, whole_is, refused, given, giving, judge, passes, before_more, before_labels}
 
--- a grip of an exit frame that is out of its range
-pub exit_grip_refused : (old new : RoutineParts) (pieces : ℕ) (grip : GripWords) (n : ℕ)
-    (e : AsmFault) → IsRefusal (grip_check pieces grip) n e
-    → GivesStage AwaitsExit old pieces (ExitLine grip) n new (Err e)
-exit_grip_refused old new pieces grip n e fails number place u rules.AwaitsExit many line at =
-    refused_by number place n (grip_check (piece_count u) grip) (Within u (rules.InExit (exit_source grip [] [] []))) e line
-    (subst (λ (c : Option FaultKind). IsRefusal c n e) (grip_check_is pieces u grip many) fails)
-exit_grip_refused old new pieces grip n e fails number place u t many line at = absurd at
-
--- an exit frame begins
-pub exit_begun : (r : RoutineParts) (pieces : ℕ) (grip : GripWords) (n : ℕ) (x : Exit)
-    → grip_check pieces grip ≡ None
-    → ((version : ℕ) (h : ProcedureWords) → IsSignature r.signature version h
-    → IsExitFor x version h (exit_source grip [] [] []))
-    → GivesStage AwaitsExit r pieces (ExitLine grip) n r (Ok (InExit x))
-exit_begun r pieces grip n x none is number place u rules.AwaitsExit many line at = (
-  rules.InExit (exit_source grip [] [] []),
-  passes place (grip_check (piece_count u) grip) (Within u (rules.InExit (exit_source grip [] [] []))) (sym (grip_check_is pieces u grip many) ∙ none),
-  (
-    is u.title.version u.head at.routine.signature,
-    before_more number place (start_of u) u.title.version r u.head 1 (1 + length (exit_lines (exit_source grip [] [] []))) (omega arith) at,
-  ),
-)
-exit_begun r pieces grip n x none is number place u t many line at = absurd at
-
--- the line begins an exit frame
-abbrev pub is_exit_line : Line → Bool
-is_exit_line (ExitLine grip) = true
-is_exit_line line = false
-
-none_exits : (place : ℕ) (u : OpenProcedure) (line : Line) → is_exit_line line ≡ false
-    → within_one place u rules.AwaitsExit line ≡ Err (P1, place)
-none_exits place u (ExitLine grip) e = absurd (true≢false e)
-none_exits place u line e = refl
+-- a grip of an exit frame, which begins there
+pub exit_given : (r : RoutineParts) (pieces : ℕ) (grip : GripWords) (n : ℕ)
+    (result : Result Exit AsmFault)
+    → MatchResult result (λ x. (grip_check pieces grip ≡ None)
+    × ((version : ℕ) (h : ProcedureWords) → IsSignature r.signature version h
+    → IsExitFor x version h (exit_source grip [] [] [])))
+    (IsRefusal (grip_check pieces grip) n)
+    → GivesStage AwaitsExit r pieces (ExitLine grip) n r (giving InExit result)
+exit_given r pieces grip n result h number place u rules.AwaitsExit many line at =
+    judge number place n u r (grip_check pieces grip) (grip_check (piece_count u) grip) InExit (rules.InExit (exit_source grip [] [] []))
+    (λ x. (version : ℕ) (h : ProcedureWords) → IsSignature r.signature version h → IsExitFor x version h (exit_source grip [] [] []))
+    result line (grip_check_is pieces u grip many) h
+    (λ x passed is. (
+      is u.title.version u.head at.routine.signature,
+      before_more number place (start_of u) u.title.version r u.head 1 (1 + length (exit_lines (exit_source grip [] [] []))) (omega arith) at,
+    ))
+exit_given r pieces grip n result h number place u t many line at = absurd at
 
 -- another line, where an exit frame is due
-pub other_exits : (old new : RoutineParts) (pieces : ℕ) (line : Line) (n : ℕ)
-    → is_exit_line line ≡ false
-    → GivesStage AwaitsExit old pieces line n new (Err (fault.P1 n))
-other_exits old new pieces line n other number place u rules.AwaitsExit many is at =
-    inr ((P1, place), none_exits place u line other, ap fault.P1 is)
-other_exits old new pieces line n other number place u t many is at = absurd at
+pub other_exits : (f : LineForm) (old new : RoutineParts) (pieces n : ℕ)
+    → ((x : GripParts) → f ≡ form.Exit x → ⊥)
+    → GivesStage AwaitsExit old pieces (line_words f) n new (Err (fault.P1 n))
+other_exits f old new pieces n other number place u rules.AwaitsExit many is at =
+    inr ((P1, place), by f other, ap fault.P1 is)
+  where
+    by : (f : LineForm) → ((x : GripParts) → f ≡ form.Exit x → ⊥) → within_one place u rules.AwaitsExit (line_words f) ≡ Err (P1, place)
+    by (form.Exit x) h = absurd (h x refl)
+    by f h = refl
+other_exits f old new pieces n other number place u t many is at = absurd at
 
 -- what comes of a line of an exit frame
 abbrev after_exit_line : OpenProcedure → ExitSource → Line → Beginning
@@ -98,26 +85,18 @@ exit_longer : (version : ℕ) (h : ProcedureWords) (e : ExitSource) (line : Line
     → exit_check version h e line ≡ None
     → length (exit_lines (with_exit_line e line)) ≡ suc (length (exit_lines e))
 exit_longer version h e (ResultLine ends) none =
-    let old = exit_length e in
-    let new = exit_length (with_exit_line e (ResultLine ends)) in
-    let one = one_longer e.results ends in omega (arith, old, new, one)
+    omega (arith, exit_length e, exit_length (with_exit_line e (ResultLine ends)), one_longer e.results ends)
 exit_longer version h e (GuardLine form) none =
-    let old = exit_length e in
-    let new = exit_length (with_exit_line e (GuardLine form)) in
-    let one = one_longer e.guards form in omega (arith, old, new, one)
+    omega (arith, exit_length e, exit_length (with_exit_line e (GuardLine form)), one_longer e.guards form)
 exit_longer version h e (AtLine piece) none =
-    let old = exit_length e in
-    let new = exit_length (with_exit_line e (AtLine piece)) in
-    let one = one_longer e.pieces piece in omega (arith, old, new, one)
+    omega (arith, exit_length e, exit_length (with_exit_line e (AtLine piece)), one_longer e.pieces piece)
 exit_longer version h e line none = absurd (none-some P1 (sym none))
 
 -- the exit frame goes on where it is not whole
 goes_on : (u : OpenProcedure) (e : ExitSource) (line : Line)
     → (length (with_exit_line e line).pieces == piece_count u) ≡ false
     → after_exit_line u e line ≡ Within u (rules.InExit (with_exit_line e line))
-goes_on u e (AtLine piece) part =
-    let next = with_exit_line e (AtLine piece) in
-    ap (λ (t : Bool). if t then Within u (rules.AwaitsLabel (Some next)) else Within u (rules.InExit next)) part
+goes_on u e (AtLine piece) part = grind (arith, part)
 goes_on u e line part = refl
 
 -- what a line more has to do with the exit frame
@@ -156,7 +135,7 @@ first_holds false kind more e = absurd (none-some kind (sym e))
 none_whole : (pieces : List PieceWords) (k : ℕ) → is_empty pieces ≡ true → 2 ≤ k
     → (length pieces == k) ≡ true → ⊥
 none_whole [] k empty some whole =
-    let same = eqb-true 0 k whole in omega (arith, same, some)
+    omega (arith, eqb-true 0 k whole, some)
 none_whole (p ∷ pieces) k empty some whole = true≢false (sym empty)
 
 -- it ends where it is whole: the last line then is one of a piece
@@ -164,9 +143,7 @@ ends_whole : (u : OpenProcedure) (e : ExitSource) (line : Line) → 2 ≤ piece_
     → exit_check u.title.version u.head e line ≡ None
     → (length (with_exit_line e line).pieces == piece_count u) ≡ true
     → after_exit_line u e line ≡ Within u (rules.AwaitsLabel (Some (with_exit_line e line)))
-ends_whole u e (AtLine piece) some none whole =
-    let next = with_exit_line e (AtLine piece) in
-    ap (λ (t : Bool). if t then Within u (rules.AwaitsLabel (Some next)) else Within u (rules.InExit next)) whole
+ends_whole u e (AtLine piece) some none whole = grind (arith, whole)
 ends_whole u e (ResultLine ends) some none whole =
     let holds = first_holds (is_empty e.guards && is_empty e.pieces
     && nat_lt (length e.results) (result_count u.head.results)) P1 (unless (are_ends ends.low ends.high) P3 None) none in
@@ -200,10 +177,3 @@ exit_ends x next old new pieces line n some adds all same number place u (rules.
           (before_labels number place (start_of u) u.title.version old u.head grown next.frame (1 + length (exit_lines e)) added.1.frame (omega (arith, longer)) at.1),
     )
 exit_ends x next old new pieces line n some adds all same number place u t many is at = absurd at
-
--- Forms of the code that are not of a kind: their lines are not, either
-
-pub no_exit : (f : LineForm) → ((x : GripParts) → f ≡ form.Exit x → ⊥)
-    → is_exit_line (line_words f) ≡ false
-no_exit (form.Exit x) h = absurd (h x refl)
-no_exit f h = refl

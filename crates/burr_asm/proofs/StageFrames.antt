@@ -1,6 +1,6 @@
 -- What the code makes of a line of a label's frame is what the rules say.
 use Rattle.std.proofs.Common.{◌≡◌, inr, ℕ, suc, ◌+◌, ◌==◌, Bool, true, false, true≢false, List, [], ◌∷◌, ◌++◌, length, Option, None, refl, sym, ap, subst, ◌∙◌, arith}
-use Rattle.std.specs.Prelude.{Ok, Err, if◌then◌else◌}
+use Rattle.std.specs.Prelude.{Result, Ok, Err, MatchResult, if◌then◌else◌}
 use Rattle.std.proofs.lemmas.Bool.{eq-eqb, ne_eqb}
 use Rattle.std.proofs.lemmas.Option.{none-some}
 use Rattle.burr_container.specs.Rules.Plans.{Frame}
@@ -21,137 +21,89 @@ use Rattle.burr_asm.specs.declared.text.line.LineForm.{LineForm}
 use Rattle.burr_asm.specs.declared.text.line.LineForm.TheVariants as form
 use Rattle.burr_asm.specs.Views.Faults.{IsRefusal}
 use Rattle.burr_asm.specs.Views.Frames.{ConditionParts, AreFor, condition_check, with_condition}
-use Rattle.burr_asm.specs.Views.FrameLines.{costed, with_piece}
+use Rattle.burr_asm.specs.Views.FrameLines.{costed, with_piece, AddsCondition}
 use Rattle.burr_asm.specs.Views.LineWords.{line_words}
 use Rattle.burr_asm.specs.Views.Routines.{RoutineParts, with_frame}
 use Rattle.burr_asm.specs.Views.Beginnings.{AfterFrame}
-use Rattle.burr_asm.specs.Views.Fronts.{start_of, within_one}
+use Rattle.burr_asm.specs.Views.Fronts.{start_of, within_one, IsNextStage}
 use Rattle.burr_asm.specs.Views.Steps.{GivesStage, GivesInAny}
 use Rattle.burr_asm.proofs.StagePlaces.{bare_block, conditions_length, frame_length, one_longer}
-use Rattle.burr_asm.proofs.StageLines.{grip_check_is, whole_is, refused, refused_by, given, passes, under_more, after_frame}
+use Rattle.burr_asm.proofs.StageLines.{grip_check_is, whole_is, refused_by, given, giving, judge, passes, under_more, after_frame}
 
 -- The frame of a label
 
--- a grip that is out of its range
-pub frame_refused : (pieces : ℕ) (grip : GripWords) (n : ℕ) (e : AsmFault)
-    → IsRefusal (grip_check pieces grip) n e
-    → (r : RoutineParts) → GivesStage AwaitsFrame r pieces (FrameLine grip) n r (Err e)
-frame_refused pieces grip n e fails r number place u (rules.AwaitsFrame exit blocks label) many line at =
-    refused_by number place n (grip_check (piece_count u) grip) (Within u (rules.InFrame exit blocks label (conditions grip [] [] []))) e line
-    (subst (λ (c : Option FaultKind). IsRefusal c n e) (grip_check_is pieces u grip many) fails)
-frame_refused pieces grip n e fails r number place u t many line at = absurd at
-
--- a frame begins
-pub frame_begun : (pieces : ℕ) (grip : GripWords) (n : ℕ) (c : ConditionParts)
-    → grip_check pieces grip ≡ None → AreFor c (conditions grip [] [] [])
-    → (r : RoutineParts) → GivesStage AwaitsFrame r pieces (FrameLine grip) n r (Ok (InFrame c))
-frame_begun pieces grip n c none is r number place u (rules.AwaitsFrame exit blocks label) many line at = (
-  rules.InFrame exit blocks label (conditions grip [] [] []),
-  passes place (grip_check (piece_count u) grip) (Within u (rules.InFrame exit blocks label (conditions grip [] [] []))) (sym (grip_check_is pieces u grip many) ∙ none),
-  (
-    is,
-    under_more number place (start_of u) u.title.version r u.head exit blocks label 1 (1 + length (condition_lines (conditions grip [] [] []))) (omega arith) at,
-  ),
-)
-frame_begun pieces grip n c none is r number place u t many line at = absurd at
-
--- the line begins a frame
-abbrev pub is_frame_line : Line → Bool
-is_frame_line (FrameLine grip) = true
-is_frame_line line = false
-
-none_begins : (place : ℕ) (u : OpenProcedure) (exit : Option ExitSource) (blocks : List Block)
-    (label : List ℕ) (line : Line) → is_frame_line line ≡ false
-    → within_one place u (rules.AwaitsFrame exit blocks label) line ≡ Err (P5, place)
-none_begins place u exit blocks label (FrameLine grip) e = absurd (true≢false e)
-none_begins place u exit blocks label line e = refl
+-- a grip, with which the frame begins
+pub frame_given : (pieces : ℕ) (grip : GripWords) (n : ℕ) (result : Result ConditionParts AsmFault)
+    → MatchResult result (λ c. (grip_check pieces grip ≡ None) × AreFor c (conditions grip [] [] []))
+    (IsRefusal (grip_check pieces grip) n)
+    → (r : RoutineParts) → GivesStage AwaitsFrame r pieces (FrameLine grip) n r (giving InFrame result)
+frame_given pieces grip n result h r number place u (rules.AwaitsFrame exit blocks label) many line at =
+    judge number place n u r (grip_check pieces grip) (grip_check (piece_count u) grip) InFrame (rules.InFrame exit blocks label (conditions grip [] [] []))
+    (λ c. AreFor c (conditions grip [] [] [])) result line (grip_check_is pieces u grip many) h
+    (λ c passed is. (
+      is,
+      under_more number place (start_of u) u.title.version r u.head exit blocks label 1 (1 + length (condition_lines (conditions grip [] [] []))) (omega arith) at,
+    ))
+frame_given pieces grip n result h r number place u t many line at = absurd at
 
 -- another line, where a frame is due
-pub other_begins : (pieces : ℕ) (line : Line) (n : ℕ) → is_frame_line line ≡ false
-    → (r : RoutineParts) → GivesStage AwaitsFrame r pieces line n r (Err (fault.P5 n))
-other_begins pieces line n other r number place u (rules.AwaitsFrame exit blocks label) many is at =
-    inr ((P5, place), none_begins place u exit blocks label line other, ap fault.P5 is)
-other_begins pieces line n other r number place u t many is at = absurd at
-
--- the line is a cost
-abbrev pub is_cost : Line → Bool
-is_cost (CostLine form) = true
-is_cost line = false
-
-judged_condition : (place : ℕ) (u : OpenProcedure) (exit : Option ExitSource) (blocks : List Block)
-    (label : List ℕ) (c : Conditions) (line : Line) → is_cost line ≡ false
-    → within_one place u (rules.InFrame exit blocks label c) line
-    ≡ judged place (condition_check c line)
-    (Within u (rules.InFrame exit blocks label (with_condition c line)))
-judged_condition place u exit blocks label c (CostLine form) e = absurd (true≢false e)
-judged_condition place u exit blocks label c line e = refl
-
--- a line before the cost that is refused
-pub condition_refused : (c : ConditionParts) (line : Line) (n : ℕ) (e : AsmFault) → is_cost line ≡ false
-    → ((d : Conditions) → AreFor c d → IsRefusal (condition_check d line) n e)
-    → (r : RoutineParts) → GivesInAny (InFrame c) r line n r (Err e)
-condition_refused c line n e other adds r number place u (rules.InFrame exit blocks label d) is at =
-    refused number place n (condition_check d line) (within_one place u (rules.InFrame exit blocks label d) line) (Within u (rules.InFrame exit blocks label (with_condition d line))) e is
-    (judged_condition place u exit blocks label d line other) (adds d at.0)
-condition_refused c line n e other adds r number place u t is at = absurd at
+pub other_begins : (f : LineForm) (pieces n : ℕ) → ((x : GripParts) → f ≡ form.Frame x → ⊥)
+    → (r : RoutineParts) → GivesStage AwaitsFrame r pieces (line_words f) n r (Err (fault.P5 n))
+other_begins f pieces n other r number place u (rules.AwaitsFrame exit blocks label) many is at =
+    inr ((P5, place), by f other, ap fault.P5 is)
+  where
+    by : (f : LineForm) → ((x : GripParts) → f ≡ form.Frame x → ⊥) → within_one place u (rules.AwaitsFrame exit blocks label) (line_words f) ≡ Err (P5, place)
+    by (form.Frame x) h = absurd (h x refl)
+    by f h = refl
+other_begins f pieces n other r number place u t many is at = absurd at
 
 condition_longer : (c : Conditions) (line : Line) → condition_check c line ≡ None
     → length (condition_lines (with_condition c line)) ≡ suc (length (condition_lines c))
 condition_longer c (SlotLine slot) e =
-    let old = conditions_length c in
-    let new = conditions_length (with_condition c (SlotLine slot)) in
-    let one = one_longer c.slots slot in omega (arith, old, new, one)
+    omega (arith, conditions_length c, conditions_length (with_condition c (SlotLine slot)), one_longer c.slots slot)
 condition_longer c (GuardLine form) e =
-    let old = conditions_length c in
-    let new = conditions_length (with_condition c (GuardLine form)) in
-    let one = one_longer c.guards form in omega (arith, old, new, one)
+    omega (arith, conditions_length c, conditions_length (with_condition c (GuardLine form)), one_longer c.guards form)
 condition_longer c (StackLine form) e =
-    let old = conditions_length c in
-    let new = conditions_length (with_condition c (StackLine form)) in
-    let one = one_longer c.stack form in omega (arith, old, new, one)
+    omega (arith, conditions_length c, conditions_length (with_condition c (StackLine form)), one_longer c.stack form)
 condition_longer c line e = absurd (none-some P1 (sym e))
 
--- a line before the cost
-pub condition_added : (c new : ConditionParts) (line : Line) (n : ℕ) → is_cost line ≡ false
-    → ((d : Conditions) → AreFor c d
-    → (condition_check d line ≡ None) × AreFor new (with_condition d line))
-    → (r : RoutineParts) → GivesInAny (InFrame c) r line n r (Ok (InFrame new))
-condition_added c new line n other adds r number place u (rules.InFrame exit blocks label d) is at =
-    let added = adds d at.0 in
-    let longer = condition_longer d line added.0 in (
-      rules.InFrame exit blocks label (with_condition d line),
-      judged_condition place u exit blocks label d line other
-          ∙ passes place (condition_check d line) (Within u (rules.InFrame exit blocks label (with_condition d line))) added.0,
-      (
-        added.1,
-        under_more number place (start_of u) u.title.version r u.head exit blocks label (1 + length (condition_lines d)) (1 + length (condition_lines (with_condition d line))) (omega (arith, longer)) at.1,
-      ),
-    )
-condition_added c new line n other adds r number place u t is at = absurd at
+judged_condition : (place : ℕ) (u : OpenProcedure) (exit : Option ExitSource) (blocks : List Block)
+    (label : List ℕ) (c : Conditions) (f : LineForm) → ((x : FormWord) → f ≡ form.Cost x → ⊥)
+    → within_one place u (rules.InFrame exit blocks label c) (line_words f)
+    ≡ judged place (condition_check c (line_words f)) (Within u (rules.InFrame exit blocks label (with_condition c (line_words f))))
+judged_condition place u exit blocks label c (form.Cost x) other = absurd (other x refl)
+judged_condition place u exit blocks label c f other = refl
 
--- a cost that is refused
-pub cost_refused : (c : ConditionParts) (form : List ℕ) (n : ℕ) (e : AsmFault)
-    → ((d : Conditions) → AreFor c d → IsRefusal (cost_check d form) n e)
-    → (r : RoutineParts) → GivesInAny (InFrame c) r (CostLine form) n r (Err e)
-cost_refused c form n e fails r number place u (rules.InFrame exit blocks label d) line at =
-    refused_by number place n (cost_check d form) (Within u (rules.InPieces exit blocks label (costed d form))) e line (fails d at.0)
-cost_refused c form n e fails r number place u t line at = absurd at
+-- a line before the cost
+pub condition_given : {A : Type 0} (c new : ConditionParts) (f : LineForm) (n : ℕ)
+    (result : Result A AsmFault) → ((x : FormWord) → f ≡ form.Cost x → ⊥)
+    → AddsCondition c (line_words f) n new result
+    → (r : RoutineParts) → GivesInAny (InFrame c) r (line_words f) n r (giving (λ x. InFrame new) result)
+condition_given c new f n result other adds r number place u (rules.InFrame exit blocks label d) is at =
+    let line = line_words f in
+    let t = rules.InFrame exit blocks label (with_condition d line) in
+    subst (λ (given : LineResult). IsNextStage number place u r given (giving (λ x. InFrame new) result))
+    (sym (judged_condition place u exit blocks label d f other))
+    (judge number place n u r (condition_check d line) (condition_check d line) (λ x. InFrame new) t (λ x. AreFor new (with_condition d line)) result is refl (adds d at.0)
+    (λ x passed are. (
+      are,
+      under_more number place (start_of u) u.title.version r u.head exit blocks label (1 + length (condition_lines d)) (1 + length (condition_lines (with_condition d line))) (let longer = condition_longer d line passed in omega (arith, longer)) at.1,
+    )))
+condition_given c new f n result other adds r number place u t is at = absurd at
 
 -- the cost
-pub cost_added : (c : ConditionParts) (form : List ℕ) (n : ℕ) (frame : Frame)
-    → ((d : Conditions) → AreFor c d → (cost_check d form ≡ None) × (frame ≡ frame_in (costed d form)))
-    → (r : RoutineParts) → GivesInAny (InFrame c) r (CostLine form) n r (Ok (AwaitsPieces frame))
-cost_added c form n frame adds r number place u (rules.InFrame exit blocks label d) line at =
-    let added = adds d at.0 in
-    let long = frame_length (costed d form) in (
-      rules.InPieces exit blocks label (costed d form),
-      passes place (cost_check d form) (Within u (rules.InPieces exit blocks label (costed d form))) added.0,
-      (
-        added.1,
-        under_more number place (start_of u) u.title.version r u.head exit blocks label (1 + length (condition_lines d)) (1 + length (frame_lines (costed d form))) (omega (arith, long)) at.1,
-      ),
-    )
-cost_added c form n frame adds r number place u t line at = absurd at
+pub cost_given : (c : ConditionParts) (form : List ℕ) (n : ℕ) (result : Result Frame AsmFault)
+    → ((d : Conditions) → AreFor c d
+    → MatchResult result (λ frame. (cost_check d form ≡ None) × (frame ≡ frame_in (costed d form))) (IsRefusal (cost_check d form) n))
+    → (r : RoutineParts) → GivesInAny (InFrame c) r (CostLine form) n r (giving AwaitsPieces result)
+cost_given c form n result adds r number place u (rules.InFrame exit blocks label d) line at =
+    let long = frame_length (costed d form) in
+    judge number place n u r (cost_check d form) (cost_check d form) AwaitsPieces (rules.InPieces exit blocks label (costed d form)) (λ frame. frame ≡ frame_in (costed d form)) result line refl (adds d at.0)
+    (λ frame passed is. (
+      is,
+      under_more number place (start_of u) u.title.version r u.head exit blocks label (1 + length (condition_lines d)) (1 + length (frame_lines (costed d form))) (omega (arith, long)) at.1,
+    ))
+cost_given c form n result adds r number place u t line at = absurd at
 
 -- Pieces
 
@@ -168,9 +120,7 @@ piece_refused frame old new pieces p n e fails number place u t many line at = a
 piece_longer : (f : FrameSource) (p : PieceWords)
     → length (frame_lines (with_piece f p)) ≡ suc (length (frame_lines f))
 piece_longer f p =
-    let old = frame_length f in
-    let new = frame_length (with_piece f p) in
-    let one = one_longer f.pieces p in omega (arith, old, new, one)
+    omega (arith, frame_length f, frame_length (with_piece f p), one_longer f.pieces p)
 
 -- what a piece more has to do with the frame
 abbrev pub AddsPiece : Frame → Frame → PieceWords → Type 0
@@ -216,41 +166,17 @@ piece_last frame next old new pieces p n adds all is number place u (rules.InPie
     )
 piece_last frame next old new pieces p n adds all is number place u t many line at = absurd at
 
--- the line is one of a piece
-abbrev pub is_piece : Line → Bool
-is_piece (AtLine piece) = true
-is_piece line = false
-
-none_pieces : (place : ℕ) (u : OpenProcedure) (exit : Option ExitSource) (blocks : List Block)
-    (label : List ℕ) (f : FrameSource) (line : Line) → is_piece line ≡ false
-    → within_one place u (rules.InPieces exit blocks label f) line ≡ Err (P1, place)
-none_pieces place u exit blocks label f (AtLine piece) e = absurd (true≢false e)
-none_pieces place u exit blocks label f line e = refl
-
 -- another line, where a piece is due
-pub other_pieces : (frame : Frame) (old new : RoutineParts) (pieces : ℕ) (line : Line) (n : ℕ)
-    → is_piece line ≡ false
-    → GivesStage (AwaitsPieces frame) old pieces line n new (Err (fault.P1 n))
-other_pieces frame old new pieces line n other number place u (rules.InPieces exit blocks label f) many is at =
-    inr ((P1, place), none_pieces place u exit blocks label f line other, ap fault.P1 is)
-other_pieces frame old new pieces line n other number place u t many is at = absurd at
-
--- Forms of the code that are not of a kind: their lines are not, either
-
-pub no_frame : (f : LineForm) → ((x : GripParts) → f ≡ form.Frame x → ⊥)
-    → is_frame_line (line_words f) ≡ false
-no_frame (form.Frame x) h = absurd (h x refl)
-no_frame f h = refl
-
-pub no_cost : (f : LineForm) → ((x : FormWord) → f ≡ form.Cost x → ⊥)
-    → is_cost (line_words f) ≡ false
-no_cost (form.Cost x) h = absurd (h x refl)
-no_cost f h = refl
-
-pub no_piece : (f : LineForm) → ((x : PieceParts) → f ≡ form.At x → ⊥)
-    → is_piece (line_words f) ≡ false
-no_piece (form.At x) h = absurd (h x refl)
-no_piece f h = refl
+pub other_pieces : (f : LineForm) (frame : Frame) (old new : RoutineParts) (pieces n : ℕ)
+    → ((x : PieceParts) → f ≡ form.At x → ⊥)
+    → GivesStage (AwaitsPieces frame) old pieces (line_words f) n new (Err (fault.P1 n))
+other_pieces f frame old new pieces n other number place u (rules.InPieces exit blocks label source) many is at =
+    inr ((P1, place), by f other, ap fault.P1 is)
+  where
+    by : (f : LineForm) → ((x : PieceParts) → f ≡ form.At x → ⊥) → within_one place u (rules.InPieces exit blocks label source) (line_words f) ≡ Err (P1, place)
+    by (form.At x) h = absurd (h x refl)
+    by f h = refl
+other_pieces f frame old new pieces n other number place u t many is at = absurd at
 
 -- Tests of numbers that are others
 

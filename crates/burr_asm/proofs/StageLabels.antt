@@ -32,9 +32,7 @@ pub size_with : (blocks : List Block) (b : Block) (w : Statement) (size : ℕ)
     → size ≡ code_size (block_code (blocks ++ b ∷ []))
     → size + code_size (w ∷ []) ≡ code_size (block_code blocks) + code_size (b.code ++ w ∷ [])
 size_with blocks b w size e =
-    let sum = size_more blocks b in
-    let both = size_both b.code (w ∷ []) in
-    omega (arith, e, sum, both)
+    omega (arith, e, size_more blocks b, size_both b.code (w ∷ []))
 
 pub size_longer : (blocks : List Block) (b : Block) (w : Statement) (size : ℕ)
     → size ≡ code_size (block_code (blocks ++ b ∷ []))
@@ -46,13 +44,11 @@ size_longer blocks b w size e =
 pub size_bare : (blocks : List Block) (label : List ℕ) (f : FrameSource)
     → code_size (block_code blocks) ≡ code_size (block_code (blocks ++ bare_block label f ∷ []))
 size_bare blocks label f =
-    let sum = size_more blocks (bare_block label f) in omega (arith, sum)
+    omega (arith, size_more blocks (bare_block label f))
 
 some_code : (s : Statement) (code : List Statement) → 0 < code_size (s ∷ code)
 some_code s code =
-    let sum = length-append (statement_bytes [] [] s) (flat_map (statement_bytes [] []) code) in
-    let some = some_size s in
-    omega (arith, sum, some)
+    omega (arith, length-append (statement_bytes [] [] s) (flat_map (statement_bytes [] []) code), some_size s)
 
 -- code of no bytes is no code
 no_bytes : (n m : ℕ) (code : List Statement) → m ≡ n + code_size code
@@ -109,17 +105,10 @@ ends_last size [] l = refl
 ends_last size (first ∷ []) l = refl
 ends_last size (first ∷ next ∷ labels) l = ends_last size (next ∷ labels) l
 
-last_of_all : (t u : Bool) → t ≡ true → u ≡ (t && (u && true))
-last_of_all true true e = refl
-last_of_all true false e = refl
-last_of_all false u e = absurd (false≢true e)
-
 -- all blocks have code if the last one has, where those before it have
 pub all_have_code : (blocks : List Block) (b : Block) → IsTrue (list_all has_code blocks)
     → has_code b ≡ list_all has_code (blocks ++ b ∷ [])
-all_have_code blocks b full =
-    last_of_all (list_all has_code blocks) (has_code b) full
-    ∙ sym (list_all-append has_code blocks (b ∷ []))
+all_have_code blocks b full = grind (arith, list_all-append has_code blocks (b ∷ []), full)
 
 -- the last label stands at the end of the code where its block has no code
 pub last_has_code : (r : RoutineParts) (blocks : List Block) (b : Block)
@@ -160,11 +149,4 @@ later_refusal r blocks b name names labels size full =
 -- what passes the check of a label stands after blocks that have code
 pub passed_label : (before : List Block) (name : List ℕ) → label_check before name ≡ None
     → IsTrue (list_all has_code before)
-passed_label before name passed =
-    by (is_known (label_names before) name) (nat_lt (length before) MOST_LABELS) (list_all has_code before) passed
-  where
-    by : (known few full : Bool) → unless (not known) P2 (unless (few && full) P4 None) ≡ None → full ≡ true
-    by known few true e = refl
-    by true few false e = absurd (none-some P2 (sym e))
-    by false true false e = absurd (none-some P4 (sym e))
-    by false false false e = absurd (none-some P4 (sym e))
+passed_label before name passed = grind (arith, passed)

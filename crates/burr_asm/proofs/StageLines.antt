@@ -1,6 +1,6 @@
 -- What is refused of a line, and what a line below a label adds to a procedure.
-use Rattle.std.proofs.Common.{◌≡◌, inl, inr, ℕ, suc, ◌+◌, ◌-◌, ◌==◌, Bool, IsTrue, List, [], ◌∷◌, ◌++◌, length, Option, Some, None, refl, sym, ap, ◌∙◌, arith}
-use Rattle.std.specs.Prelude.{Ok}
+use Rattle.std.proofs.Common.{◌≡◌, inl, inr, ℕ, suc, ◌+◌, ◌-◌, ◌==◌, Bool, IsTrue, List, [], ◌∷◌, ◌++◌, length, Option, Some, None, refl, sym, ap, subst, ◌∙◌, arith}
+use Rattle.std.specs.Prelude.{Result, Ok, Err, MatchResult}
 use Rattle.std.specs.List.{list_all}
 use Rattle.std.proofs.lemmas.List.{length-map}
 use Rattle.burr_container.specs.Rules.Plans.{Frame, ExitFrame, FormCell}
@@ -11,14 +11,17 @@ use Rattle.burr_plantext.specs.Rules.Lines.{ProcedureWords, GripWords, PieceWord
 use Rattle.burr_plantext.specs.Rules.Sources.{ExitSource, FrameSource, Block, exit_lines, frame_lines, block_lines}
 use Rattle.burr_plantext.specs.Rules.Meaning.{label_names, frame_in, place_in, places_in, exit_in}
 use Rattle.burr_plantext.specs.Rules.Checks.{FaultKind, has_code, grip_check}
-use Rattle.burr_plantext.specs.Rules.Faults.{OpenProcedure, Beginning, LineResult, judged, piece_count}
+use Rattle.burr_plantext.specs.Rules.Faults as rules
+use Rattle.burr_plantext.specs.Rules.Faults.{OpenProcedure, Beginning, Within, LineResult, judged, piece_count}
 use Rattle.burr_asm.specs.declared.fault.AsmFault.{AsmFault}
 use Rattle.burr_asm.specs.Views.CodeParts.{with_statement}
 use Rattle.burr_asm.specs.Rules.Faults.{fault_at}
 use Rattle.burr_asm.specs.Views.Faults.{IsRefusal}
 use Rattle.burr_asm.specs.Views.Routines.{RoutineParts, with_label, with_frame}
 use Rattle.burr_asm.specs.Views.Beginnings.{IsRoutine, BeforeLabels, UnderLabel, AfterFrame, lines_of}
-use Rattle.burr_asm.specs.Views.Fronts.{IsFaultOf}
+use Rattle.burr_asm.specs.Views.Fronts.{IsFaultOf, IsNextStage}
+use Rattle.burr_asm.specs.Views.Steps.{IsStageOf}
+use Rattle.burr_asm.specs.declared.text.stage.Stage.{Stage}
 use Rattle.burr_asm.proofs.StagePlaces.{bare_block, with_code, length_more, length_longer, block_length, bare_length, begun_length, begun_lacks, code_longer, code_bare}
 use Rattle.burr_asm.proofs.StageLabels.{size_longer, size_bare, labels_more, labels_longer, names_more, names_longer}
 
@@ -51,6 +54,24 @@ pub passes : (place : ℕ) (check : Option FaultKind) (next : Beginning) → che
     → judged place check next ≡ Ok next
 passes place check next e = ap (λ (c : Option FaultKind). judged place c next) e
 
+-- the stage that is made of what a line gives, or the line's fault
+abbrev pub giving : {A : Type 0} → (A → Stage) → Result A AsmFault → Result Stage AsmFault
+giving stage (Ok x) = Ok (stage x)
+giving stage (Err e) = Err e
+
+-- A line that the code and the rules judge by checks that are the same goes on to stages that are.
+pub judge : {A : Type 0} (number : ℕ → ℕ) (place n : ℕ) (u : OpenProcedure) (r : RoutineParts)
+    (asked check : Option FaultKind) (stage : A → Stage) (t : rules.Stage) (P : A → Type 0)
+    (result : Result A AsmFault) → n ≡ number place → asked ≡ check
+    → MatchResult result (λ x. (asked ≡ None) × P x) (IsRefusal asked n)
+    → ((x : A) → check ≡ None → P x → IsStageOf number (suc place) u r (stage x) t)
+    → IsNextStage number place u r (judged place check (Within u t)) (giving stage result)
+judge number place n u r asked check stage t P (Ok x) line same (none, is) goes =
+    let passed : check ≡ None = sym same ∙ none in
+    (t, passes place check (Within u t) passed, goes x passed is)
+judge number place n u r asked check stage t P (Err e) line same fails goes =
+    refused_by number place n check (Within u t) e line (subst (λ (c : Option FaultKind). IsRefusal c n e) same fails)
+
 -- The lines below a label
 
 module _ (number : ℕ → ℕ) (place start version : ℕ) (r : RoutineParts) (h : ProcedureWords) where
@@ -73,13 +94,7 @@ module _ (number : ℕ → ℕ) (place start version : ℕ) (r : RoutineParts) (
       → place ≡ start + length (lines_of h exit blocks)
       → UnderLabel number (suc place) start version (with_label r name n) h exit blocks name 1
   under_label exit blocks name n routine full names line next = record {
-    routine = record {
-      signature = routine.signature;
-      exit_is = routine.exit_is;
-      labels = routine.labels;
-      size = routine.size;
-      code = routine.code;
-    };
+    routine = record { signature = routine.signature; exit_is = routine.exit_is; labels = routine.labels; size = routine.size; code = routine.code };
     full = full;
     names = ap (λ (ns : List (List ℕ)). ns ++ name ∷ []) names;
     last = line ∙ ap number next;

@@ -129,22 +129,17 @@ pub length_longer : (h : ProcedureWords) (exit : Option ExitSource) (blocks : Li
     → length (lines_of h exit (blocks ++ with_code b s ∷ []))
     ≡ suc (length (lines_of h exit (blocks ++ b ∷ [])))
 length_longer h exit blocks b s =
-    let long = ap (λ (t : List Line). length t) (lines_longer h exit blocks b s) in
-    let sum = length-append (lines_of h exit (blocks ++ b ∷ [])) (CodeLine s ∷ []) in
-    omega (arith, long, sum)
+    omega (arith, ap (λ (t : List Line). length t) (lines_longer h exit blocks b s), length-append (lines_of h exit (blocks ++ b ∷ [])) (CodeLine s ∷ []))
 
 pub block_length : (b : Block) (s : Statement)
     → length (block_lines (with_code b s)) ≡ suc (length (block_lines b))
 block_length b s =
-    let long = ap (λ (t : List Line). length t) (block_longer b s) in
-    let sum = length-append (block_lines b) (CodeLine s ∷ []) in
-    omega (arith, long, sum)
+    omega (arith, ap (λ (t : List Line). length t) (block_longer b s), length-append (block_lines b) (CodeLine s ∷ []))
 
 pub bare_length : (label : List ℕ) (f : FrameSource)
     → length (block_lines (bare_block label f)) ≡ suc (length (frame_lines f))
 bare_length label f =
-    let sum = length-append (frame_lines f) [] in
-    omega (arith, sum)
+    omega (arith, length-append (frame_lines f) [])
 
 -- Lengths of parts
 
@@ -152,28 +147,18 @@ pub conditions_length : (c : Conditions)
     → length (condition_lines c) ≡ suc (length c.slots + (length c.guards + length c.stack))
 conditions_length c =
     let first = length-append (map SlotLine c.slots) (map GuardLine c.guards ++ map StackLine c.stack) in
-    let last = length-append (map GuardLine c.guards) (map StackLine c.stack) in
-    let slots = length-map c.slots SlotLine in
-    let guards = length-map c.guards GuardLine in
-    let stack = length-map c.stack StackLine in
-    omega (arith, first, last, slots, guards, stack)
+    omega (arith, first, length-append (map GuardLine c.guards) (map StackLine c.stack), length-map c.slots SlotLine, length-map c.guards GuardLine, length-map c.stack StackLine)
 
 pub frame_length : (f : FrameSource)
     → length (frame_lines f) ≡ length (condition_lines f.conditions) + suc (length f.pieces)
 frame_length f =
-    let sum = length-append (condition_lines f.conditions) (CostLine f.cost ∷ map AtLine f.pieces) in
-    let pieces = length-map f.pieces AtLine in
-    omega (arith, sum, pieces)
+    omega (arith, length-append (condition_lines f.conditions) (CostLine f.cost ∷ map AtLine f.pieces), length-map f.pieces AtLine)
 
 pub exit_length : (e : ExitSource)
     → length (exit_lines e) ≡ suc (length e.results + (length e.guards + length e.pieces))
 exit_length e =
     let first = length-append (map ResultLine e.results) (map GuardLine e.guards ++ map AtLine e.pieces) in
-    let last = length-append (map GuardLine e.guards) (map AtLine e.pieces) in
-    let results = length-map e.results ResultLine in
-    let guards = length-map e.guards GuardLine in
-    let pieces = length-map e.pieces AtLine in
-    omega (arith, first, last, results, guards, pieces)
+    omega (arith, first, length-append (map GuardLine e.guards) (map AtLine e.pieces), length-map e.results ResultLine, length-map e.guards GuardLine, length-map e.pieces AtLine)
 
 pub one_longer : {A : Type 0} (xs : List A) (x : A) → length (xs ++ x ∷ []) ≡ suc (length xs)
 one_longer xs x = let sum = length-append xs (x ∷ []) in omega (arith, sum)

@@ -26,18 +26,7 @@ module _ (number : ℕ → ℕ) (labels procedures : List (List ℕ)) where
   pub first_among : (lines : List Line) (start : ℕ)
       → first_unknown labels procedures (code_lines number start lines) ≡ placed number start (first_true (map (has_unknown_name labels procedures) lines))
   first_among [] start = refl
-  first_among (CodeLine s ∷ lines) start = by (names_unknown labels procedures s) (first_among lines (suc start))
-    where
-      rest : Option ℕ
-      rest = first_true (map (has_unknown_name labels procedures) lines)
-
-      found : Option ℕ
-      found = first_unknown labels procedures (code_lines number (suc start) lines)
-
-      by : (t : Bool) → found ≡ placed number (suc start) rest
-          → (if t then Some (number start) else found) ≡ placed number start (first_true (t ∷ map (has_unknown_name labels procedures) lines))
-      by true next = ap (λ (n : ℕ). Some (number n)) (omega arith)
-      by false next = next ∙ placed_later number start rest
+  first_among (CodeLine s ∷ lines) start = grind (arith, first_among lines (suc start), placed_later number start (first_true (map (has_unknown_name labels procedures) lines)))
   first_among (_ ∷ lines) start = first_among lines (suc start) ∙ placed_later number start _
 
 -- the first among two lists, one after the other

@@ -11,9 +11,7 @@ use Rattle.burr_asm.specs.Views.Words.{cut_word}
 -- what stands after a cut is shorter than the whole
 pub cut_shorter : {separator : ℕ} (bytes front rest : List ℕ) → IsCutAt separator bytes front rest → length rest < length bytes
 cut_shorter {separator} bytes front rest h =
-    let whole = ap length h.parts in
-    let parts = length-append front (separator ∷ rest) in
-    omega (arith, whole, parts)
+    omega (arith, ap length h.parts, length-append front (separator ∷ rest))
 
 pub first_cut : (bytes front rest : List ℕ) → IsCutAt 32 bytes front rest → front ≡ first_word bytes
 first_cut bytes front rest h = ap (λ (ps : List (List ℕ)). slice_index_or ps 0 []) (sym (pieces_cut 32 bytes front rest h))

@@ -21,5 +21,4 @@ pub mod Routines
 pub mod Sets
 pub mod SourceMaps
 pub mod Steps
-pub mod Versions
 pub mod Words

@@ -1,5 +1,5 @@
 -- Exit frames as far as the code has read them, and the words that they stand for.
-use Rattle.std.specs.Prelude.{◌≡◌, ◌≤◌, ◌<◌, ℕ, [], ◌∷◌, ◌++◌, length, Option, Some, Bool, true, false}
+use Rattle.std.specs.Prelude.{◌≡◌, ◌≤◌, ◌<◌, ℕ, [], ◌∷◌, ◌++◌, length, Option, Some}
 use Rattle.burr_plantext.specs.Rules.Written.{natural_in}
 use Rattle.burr_plantext.specs.Rules.Lines.{Line, ResultLine, GuardLine, AtLine, ProcedureWords}
 use Rattle.burr_plantext.specs.Rules.Sources.{ExitSource}
@@ -7,18 +7,10 @@ use Rattle.burr_plantext.specs.Rules.Meaning.{exit_in, result_count}
 use Rattle.burr_plantext.specs.Rules.Checks.{FaultKind, P1, result_check, exit_guard_check, exit_piece_check}
 use Rattle.burr_asm.specs.declared.text.signature.Signature.{Signature}
 use Rattle.burr_asm.specs.declared.text.exit.Exit.{Exit}
-use Rattle.burr_asm.specs.declared.text.front.Version.{Version}
-use Rattle.burr_asm.specs.declared.text.front.Version.TheVariants.{One, Two}
-use Rattle.burr_asm.specs.Views.Versions.{number_of_version}
-
--- the version of plans whose procedures may have results
-abbrev pub is_second : Version → Bool
-is_second One = false
-is_second Two = true
 
 -- what the procedure of these words takes and gives, in a plan of this version
 pub record IsSignature (s : Signature) (version : ℕ) (h : ProcedureWords) : Type 0 where
-  pub version_is : number_of_version s.version ≡ version
+  pub version_is : s.version ≡ version
   pub parameters : s.parameters ≡ natural_in h.parameters
   pub results : s.results ≡ result_count h.results
 

@@ -3,7 +3,6 @@ use Rattle.std.specs.Prelude.{ℕ, List, Option, Some, None}
 use Rattle.burr_plantext.specs.Rules.Texts.{words_of}
 use Rattle.burr_plantext.specs.Rules.Statements.{Statement, Push, Load, Store, Grip, Step, Aside, Tray, Jump, Down, Ask, Pick, Call, Byte}
 use Rattle.burr_plantext.specs.Rules.Lines.{Line, PlanLine, ProcLine, ExitLine, ResultLine, LabelLine, FrameLine, SlotLine, GuardLine, StackLine, CostLine, AtLine, CodeLine, PlanWords, ProcedureWords, GripWords, RangeWords, SlotWords, PlaceWords, Apart, On, PieceWords}
-use Rattle.burr_asm.specs.Views.Versions.{number_of_version}
 use Rattle.burr_asm.specs.Views.Words.{line_alone}
 use Rattle.burr_asm.specs.declared.text.words.NumberWord.{NumberWord}
 use Rattle.burr_asm.specs.declared.text.line.NumberKeyword.{NumberKeyword}
@@ -60,7 +59,7 @@ word_if_any (Some word) = Some word.bytes.now
 -- the plan's line
 abbrev pub plan_words : PlanParts → PlanWords
 plan_words w = record {
-  version = number_of_version w.version;
+  version = w.version;
   name = w.name.now;
   pieces = w.pieces.bytes.now;
   budget = w.budget.bytes.now;

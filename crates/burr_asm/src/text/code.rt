@@ -1,123 +1,21 @@
-ghost use Rattle.std.specs.Prelude.{◌≡◌, ◌≤◌, ◌∷◌, MatchResult, None, false, length, true, IfSome, MatchOption, [], Some, ◌<◌};
-ghost use Rattle.burr_code.specs.declared.limits.TheConstants.{MOST_CODE};
+ghost use Rattle.std.specs.Prelude.{◌≡◌, ◌≤◌, ◌∷◌, None, false, length, true, IfSome, MatchOption, [], Some, ◌<◌};
 ghost use Rattle.burr_code.specs.Instruction.{spelled, IsInRange};
 ghost use Rattle.burr_code.specs.Meaning.{meaning};
 ghost use Rattle.burr_plantext.specs.Rules.Checks.{is_in_range};
 ghost use Rattle.burr_plantext.specs.Rules.Meaning.{code_size};
 ghost use Rattle.burr_plantext.specs.Rules.Statements.{code_of, hex_value, is_hex_digit, raw_byte, Byte};
 ghost use Rattle.burr_plantext.specs.Rules.Texts.{words_of};
-ghost use Rattle.burr_asm.specs.Views.Faults.{IsRefusal, IsUnknown};
-ghost use Rattle.burr_asm.specs.Views.CodeParts.{code_of_all, code_refusal, first_unknown};
-ghost use Rattle.burr_asm.specs.Views.CodeParts.{no_code, numbered, with_statement};
 ghost use Rattle.burr_asm.specs.Views.LineWords.{number_words, plain_words, code_words};
 ghost use Rattle.burr_asm.specs.Views.Plain.{IsPlain};
-ghost use Rattle.burr_asm.specs.Views.Keywords.{plain_line, operands_line};
+ghost use Rattle.burr_asm.specs.Views.Keywords.{operands_line};
 
-use crate::fault::AsmFault;
-use crate::text::line::{CodeKeyword, NumberKeyword, PlainKeyword};
+use crate::text::line::{CodeKeyword, NumberKeyword};
 use crate::text::names::OfferWords;
 use crate::text::numbers::{operand, range, slot, tray};
-use crate::text::statement::{Scope, Statement};
 use crate::text::words::{BareWord, NumberWord, SetWord, gripped_set, name};
 use burr_code::Instr;
-use burr_code::limits::MOST_CODE;
 use burr_text::cut_at;
 use burr_voxels::Direction;
-use std::alloc::Global;
-use std::marker::Model;
-
-/// The code of a procedure as far as it has been read: its statements, and how many bytes they have.
-#[derive(Drop)]
-pub struct Code<'a> {
-    statements: Vec<Statement<'a>>,
-    size: usize,
-}
-
-impl<'a> Model for Code<'a> {
-    ghost use Rattle.std.specs.Prelude.{◌≤◌};
-    ghost use Rattle.burr_code.specs.declared.limits.TheConstants.{MOST_CODE};
-    ghost use Rattle.burr_asm.specs.Views.CodeParts.{numbered, CodeParts};
-
-    ghost Value = { CodeParts };
-
-    ghost view = { λ c. record { statements = numbered c.statements.items; size = c.size } };
-
-    ghost invariant = { λ c. c.size ≤ MOST_CODE };
-}
-
-impl<'a> Code<'a> {
-    /// No code yet.
-    pub fn new(alloc: Global) -> Code<'a>
-        ensures { result ≡ no_code }
-    {
-        Code {
-            statements: Vec::new(alloc),
-            size: 0,
-        }
-    }
-
-    /// How many bytes there are: at most 4,096.
-    pub fn size(&self) -> u16
-        ensures size { result ≡ self.now.size }
-        ensures few { result ≤ MOST_CODE }
-    {
-        self.size as u16
-    }
-
-    /// Adds one more line of code, if it is in range and there is room.
-    pub fn add(&mut self, code: CodeLine<'a>, line: usize) -> Result<(), AsmFault>
-        ensures { let words = code_words code.entry in
-            MatchResult result
-            (λ _done. (code_refusal self.old words ≡ None)
-            × (self.new ≡ with_statement self.old line words))
-            (IsRefusal (code_refusal self.old words) line) }
-    {
-        let size = match code.size() {
-            Some(size) => size,
-            None => return Err(AsmFault::P3 { line }),
-        };
-        if size > MOST_CODE - self.size {
-            return Err(AsmFault::P4 { line });
-        }
-        self.statements.push(Statement { line, code })?;
-        self.size += size;
-        Ok(())
-    }
-
-    /// The bytes of the code; else the fault of the first line in which an unknown name stands.
-    pub fn encode(&self, alloc: Global, scope: Scope<'_, '_>) -> Result<Vec<u8>, AsmFault>
-        ensures { let labels = scope.entry.labels.now in
-            let procedures = scope.entry.procedures.now in
-            MatchResult result
-            (λ bytes. (first_unknown labels procedures self.now.statements ≡ None)
-            × (bytes.items ≡ code_of_all labels procedures self.now.statements))
-            (IsUnknown (first_unknown labels procedures self.now.statements)) }
-    {
-        encode_all(alloc, &self.statements, self.size, scope)
-    }
-}
-
-/// The bytes of statements, `size` in all; else the fault of the first in which an unknown name stands.
-fn encode_all(
-    alloc: Global,
-    statements: &[Statement<'_>],
-    size: usize,
-    scope: Scope<'_, '_>,
-) -> Result<Vec<u8>, AsmFault>
-    ensures { let labels = scope.entry.labels.now in
-        let procedures = scope.entry.procedures.now in
-        let code = numbered statements.now in
-        MatchResult result
-        (λ bytes. (first_unknown labels procedures code ≡ None)
-        × (bytes.items ≡ code_of_all labels procedures code))
-        (IsUnknown (first_unknown labels procedures code)) }
-{
-    let mut code = Vec::with_capacity(alloc, size)?;
-    for statement in statements {
-        code.extend_from_slice(&statement.encode(alloc, scope)?)?;
-    }
-    Ok(code)
-}
 
 /// A line of an instruction that names no label and no procedure, by its form alone.
 #[derive(Clone, Copy)]
@@ -154,30 +52,6 @@ impl<'a> PlainLine<'a> {
             PlainLine::Ask(low, high) => {
                 let (low, high) = range(low, high)?;
                 Some(Instr::Ask(low, high))
-            }
-        }
-    }
-
-    /// The line that begins with a keyword, and what stands after the blank; None where it is of no
-    /// form.
-    pub fn with_operands(keyword: PlainKeyword, words: &'a [u8]) -> Option<PlainLine<'a>>
-        ensures { MatchOption result (plain_line keyword (words_of words.now) ≡ None) (λ line.
-            plain_line keyword (words_of words.now) ≡ Some (plain_words line)) }
-    {
-        match keyword {
-            PlainKeyword::Number(keyword) => Some(PlainLine::Number(
-                keyword,
-                NumberWord::parse(words)?,
-            )),
-            PlainKeyword::Ask => {
-                let (low, high) = NumberWord::cut(words)?;
-                Some(PlainLine::Ask(low, NumberWord::parse(high)?))
-            }
-            PlainKeyword::Grip => Some(PlainLine::Grip(SetWord::parse(words)?)),
-            PlainKeyword::Step => Some(PlainLine::Step(Direction::named(words)?)),
-            PlainKeyword::Aside => {
-                let (direction, tray) = cut_at(words, b' ')?;
-                Some(PlainLine::Aside(Direction::named(direction)?, NumberWord::parse(tray)?))
             }
         }
     }
@@ -253,6 +127,21 @@ impl CodeLine<'_> {
             operands_line keyword (words_of words.now) ≡ Some (code_words line)) }
     {
         match keyword {
+            CodeKeyword::Number(keyword) => Some(CodeLine::Plain(PlainLine::Number(
+                keyword,
+                NumberWord::parse(words)?,
+            ))),
+            CodeKeyword::Ask => {
+                let (low, high) = NumberWord::cut(words)?;
+                Some(CodeLine::Plain(PlainLine::Ask(low, NumberWord::parse(high)?)))
+            }
+            CodeKeyword::Grip => Some(CodeLine::Plain(PlainLine::Grip(SetWord::parse(words)?))),
+            CodeKeyword::Step => Some(CodeLine::Plain(PlainLine::Step(Direction::named(words)?))),
+            CodeKeyword::Aside => {
+                let (word, tray) = cut_at(words, b' ')?;
+                let direction = Direction::named(word)?;
+                Some(CodeLine::Plain(PlainLine::Aside(direction, NumberWord::parse(tray)?)))
+            }
             CodeKeyword::Jump => Some(CodeLine::Jump(name(words)?)),
             CodeKeyword::Down => {
                 let (slot, label) = NumberWord::cut(words)?;

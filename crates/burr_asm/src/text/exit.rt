@@ -4,14 +4,13 @@ ghost use Rattle.burr_plantext.specs.Rules.Lines.{AtLine, GripWords as GripSourc
 ghost use Rattle.burr_plantext.specs.Rules.Right.{exit_source};
 ghost use Rattle.burr_asm.specs.Views.ExitFrames.{AddsExitGuard, AddsExitPiece};
 ghost use Rattle.burr_asm.specs.Views.ExitLines.{AddsExitLine};
-ghost use Rattle.burr_asm.specs.Views.Exits.{is_second, IsExitFor, IsSignature};
+ghost use Rattle.burr_asm.specs.Views.Exits.{IsExitFor, IsSignature};
 ghost use Rattle.burr_asm.specs.Views.Frames.{IsGrip};
 ghost use Rattle.burr_asm.specs.Views.LineWords.{line_words, piece_words, range_words};
 
 use crate::fault::AsmFault;
 use crate::text::form::FormWord;
 use crate::text::frame::{Grip, add_form, add_place};
-use crate::text::front::Version;
 use crate::text::line::{LineForm, PieceWords, RangeWords};
 use crate::text::numbers::range;
 use crate::text::signature::Signature;
@@ -87,14 +86,11 @@ impl Exit {
 
     /// Whether a guard may stand next.
     fn takes_guards(&self) -> bool
-        ensures { result ≡ (is_second self.now.signature.version
+        ensures { result ≡ ((self.now.signature.version == 2)
             && not (nat_lt (length self.now.frame.results) self.now.signature.results)
             && is_empty self.now.frame.places) }
     {
-        match self.signature.version {
-            Version::One => false,
-            Version::Two => !self.lacks_results() && self.frame.places.is_empty(),
-        }
+        self.signature.version == 2 && !self.lacks_results() && self.frame.places.is_empty()
     }
 
     /// A line `result`, before all guards and pieces.

@@ -63,7 +63,7 @@ impl<'a> FormWord<'a> {
             least = slot + 1;
             rest = more;
         }
-        let constant = constant(NumberWord::of(first))?;
+        let constant = constant(NumberWord::parse(first)?)?;
         Some(PlanForm { constant, coefs })
     }
 }

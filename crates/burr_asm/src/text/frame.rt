@@ -171,7 +171,9 @@ impl Conditions {
             × (frame ≡ frame_in (costed c form.entry.bytes.now)))
             (IsRefusal (cost_check c form.entry.bytes.now) line) }
     {
-        let cost = form_over(&live_slots(&self.slots), form, line)?;
+        let Some(cost) = form.value(&live_slots(&self.slots)) else {
+            return Err(AsmFault::P3 { line });
+        };
         Ok(Frame {
             tray: self.grip.tray,
             grip: self.grip.set,
@@ -208,25 +210,14 @@ pub fn add_form(
         × (forms.new.items ≡ forms.old.items ++ form_in words.entry.bytes.now ∷ []))
         (IsRefusal (form_check most live.now forms.old.items words.entry.bytes.now) line) }
 {
-    let form = form_over(live, words, line)?;
+    let Some(form) = words.value(live) else {
+        return Err(AsmFault::P3 { line });
+    };
     if forms.len() >= most {
         return Err(AsmFault::P4 { line });
     }
     forms.push(form)?;
     Ok(())
-}
-
-/// The form of these words over these live slots.
-fn form_over(live: &[bool; SLOTS], words: FormWord<'_>, line: usize) -> Result<PlanForm, AsmFault>
-    ensures { MatchResult result
-        (λ form. (is_form_over live.now words.entry.bytes.now ≡ true)
-        × (form ≡ form_in words.entry.bytes.now))
-        (λ fault. (is_form_over live.now words.entry.bytes.now ≡ false) × (fault ≡ P3 line)) }
-{
-    match words.value(live) {
-        Some(form) => Ok(form),
-        None => Err(AsmFault::P3 { line }),
-    }
 }
 
 /// Which slots are live.

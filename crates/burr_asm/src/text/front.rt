@@ -1,10 +1,9 @@
 ghost use Rattle.std.specs.Prelude.{◌≡◌};
 ghost use Rattle.burr_plantext.specs.Rules.Texts.{first_word, unended_line, Unread};
 ghost use Rattle.burr_asm.specs.Views.LineWords.{line_words, procedure_words};
-ghost use Rattle.burr_asm.specs.Views.FrontSteps.{BeginsMain, EndsText, GivesFault, GivesFront, GivesNext, GivesUnderWay, GivesWithin, front_after, misses, NextProcedure};
+ghost use Rattle.burr_asm.specs.Views.FrontSteps.{EndsText, GivesFault, GivesFront, GivesNext, GivesUnderWay, GivesWithin, front_after, misses, NextProcedure};
 ghost use Rattle.burr_asm.specs.Views.Steps.{changed};
 ghost use Rattle.burr_asm.specs.declared.text.front.Front.TheVariants.{AwaitsMain, AwaitsPlan, InProcedure};
-ghost use Rattle.burr_asm.specs.Views.Versions.{number_of_version};
 
 use crate::fault::AsmFault;
 use crate::text::line::{LineForm, ProcedureWords};
@@ -139,30 +138,19 @@ fn begin_main<'a>(
         (front_after (AwaitsMain outline.new) result) }
 {
     match form {
-        LineForm::Procedure(words) => first_procedure(alloc, outline, words, line),
+        LineForm::Procedure(words) => {
+            if !words.are_of(outline.version()) {
+                return Err(AsmFault::P1 { line });
+            }
+            let routine = outline.begin(alloc, words, line)?;
+            Ok(Some(Front::InProcedure(UnderWay {
+                outline: outline.take(alloc),
+                routine,
+                stage: Stage::AwaitsLabel,
+            })))
+        }
         _ => Err(AsmFault::P1 { line }),
     }
-}
-
-/// A line `proc` after the plan's, with which main begins.
-fn first_procedure<'a>(
-    alloc: Global,
-    outline: &mut Outline<'a>,
-    words: ProcedureWords<'a>,
-    line: usize,
-) -> Result<Option<Front<'a>>, AsmFault>
-    ensures { BeginsMain outline.old (procedure_words words.entry) line
-        (front_after (AwaitsMain outline.new) result) }
-{
-    if !words.are_of(outline.version()) {
-        return Err(AsmFault::P1 { line });
-    }
-    let routine = outline.begin(alloc, words, line)?;
-    Ok(Some(Front::InProcedure(UnderWay {
-        outline: outline.take(alloc),
-        routine,
-        stage: Stage::AwaitsLabel,
-    })))
 }
 
 impl<'a> UnderWay<'a> {
@@ -218,9 +206,16 @@ impl<'a> UnderWay<'a> {
             (line_words form.entry) line (front_after (InProcedure self.new) result) }
     {
         let pieces = self.outline.pieces();
-        self.stage
-            .add(alloc, &mut self.routine, pieces, form, line)?;
-        Ok(None)
+        match self
+            .stage
+            .next(alloc, &mut self.routine, pieces, form, line)?
+        {
+            None => Ok(None),
+            Some(next) => {
+                self.stage = next;
+                Ok(None)
+            }
+        }
     }
 
     /// The plan, where the text may end here; `line` is the one after the last.
@@ -230,24 +225,5 @@ impl<'a> UnderWay<'a> {
         self.stage.end(line)?;
         self.outline.end(alloc, &mut self.routine)?;
         self.outline.take(alloc).resolve(alloc)
-    }
-}
-
-/// The version of a plan. In version 2 procedures may have results, and exit frames guards.
-#[derive(Clone, Copy)]
-pub enum Version {
-    One,
-    Two,
-}
-
-impl Version {
-    /// Its number: 1 or 2.
-    pub fn number(self) -> u16
-        ensures { result ≡ number_of_version self }
-    {
-        match self {
-            Version::One => 1,
-            Version::Two => 2,
-        }
     }
 }

@@ -4,16 +4,14 @@ ghost use Rattle.burr_plantext.specs.Rules.Lines.{PlanLine, ProcLine, AtLine, gr
 ghost use Rattle.burr_plantext.specs.Rules.Operands.{three, two};
 ghost use Rattle.burr_plantext.specs.Rules.Texts.{words_of};
 ghost use Rattle.burr_plantext.specs.Rules.Written.{is_form, is_number};
-ghost use Rattle.burr_asm.specs.Views.Keywords.{form_line, frame_line, keyword_line, part_line, word_of};
+ghost use Rattle.burr_asm.specs.Views.Keywords.{keyword_line, word_of};
 ghost use Rattle.burr_asm.specs.Views.LineWords.{grip_words, line_words, piece_words, place_words, plan_words, procedure_words, range_between, range_words, slot_between, slot_words, word_if_any};
 ghost use Rattle.burr_asm.specs.Views.Places.{place_line, three_words};
-ghost use Rattle.burr_asm.specs.Views.Versions.{number_of_version};
 ghost use Rattle.burr_asm.specs.Views.Words.{cut_word};
 ghost use Rattle.burr_asm.specs.declared.text.line.Keyword.{Keyword as KeywordOf};
 
-use crate::text::code::{CodeLine, PlainLine};
+use crate::text::code::CodeLine;
 use crate::text::form::FormWord;
-use crate::text::front::Version;
 use crate::text::words::{NumberWord, SetWord, cut_name, name};
 use burr_text::cut_at;
 
@@ -47,10 +45,10 @@ pub enum LineForm<'a> {
     Code(CodeLine<'a>),
 }
 
-/// The words of the plan's line. Its first word tells the plan's version.
+/// The words of the plan's line. Its first word tells the plan's version, 1 or 2.
 #[derive(Clone, Copy)]
 pub struct PlanWords<'a> {
-    pub version: Version,
+    pub version: u16,
     pub name: &'a [u8],
     pub pieces: NumberWord<'a>,
     pub budget: NumberWord<'a>,
@@ -118,65 +116,30 @@ impl LineForm<'_> {
             keyword_line keyword (words_of words.now) ≡ Some (line_words form)) }
     {
         match keyword {
-            Keyword::Plan(version) => Some(LineForm::Plan(PlanWords::parse(version, words)?)),
-            Keyword::Part(keyword) => LineForm::of_part(keyword, words),
-            Keyword::Frame(keyword) => LineForm::of_frame(keyword, words),
-            Keyword::Form(keyword) => LineForm::of_form(keyword, words),
+            Keyword::Plan => Some(LineForm::Plan(PlanWords::parse(1, words)?)),
+            Keyword::Plan2 => Some(LineForm::Plan(PlanWords::parse(2, words)?)),
+            Keyword::Procedure => Some(LineForm::Procedure(ProcedureWords::parse(words)?)),
+            Keyword::Exit => Some(LineForm::Exit(GripWords::parse(words)?)),
+            Keyword::Result => Some(LineForm::Result(RangeWords::parse(words)?)),
+            Keyword::Label => Some(LineForm::Label(name(words)?)),
+            Keyword::Frame => Some(LineForm::Frame(GripWords::parse(words)?)),
+            Keyword::Slot => Some(LineForm::Slot(SlotWords::parse(words)?)),
+            Keyword::Guard => Some(LineForm::Guard(FormWord::parse(words)?)),
+            Keyword::Stack => Some(LineForm::Stack(FormWord::parse(words)?)),
+            Keyword::Cost => Some(LineForm::Cost(FormWord::parse(words)?)),
+            Keyword::At => Some(LineForm::At(PieceWords::parse(words)?)),
             Keyword::Code(keyword) => Some(LineForm::Code(CodeLine::with_operands(
                 keyword, words,
             )?)),
-            Keyword::Plain(keyword) => Some(LineForm::Code(CodeLine::Plain(PlainLine::with_operands(
-                keyword, words,
-            )?))),
-        }
-    }
-
-    /// The line with which a part of the text begins.
-    fn of_part(keyword: PartKeyword, words: &[u8]) -> Option<LineForm<'_>>
-        ensures { MatchOption result (part_line keyword (words_of words.now) ≡ None) (λ form.
-            part_line keyword (words_of words.now) ≡ Some (line_words form)) }
-    {
-        match keyword {
-            PartKeyword::Procedure => Some(LineForm::Procedure(ProcedureWords::parse(words)?)),
-            PartKeyword::Exit => Some(LineForm::Exit(GripWords::parse(words)?)),
-            PartKeyword::Label => Some(LineForm::Label(name(words)?)),
-            PartKeyword::Frame => Some(LineForm::Frame(GripWords::parse(words)?)),
-        }
-    }
-
-    /// The line within a frame.
-    fn of_frame(keyword: FrameKeyword, words: &[u8]) -> Option<LineForm<'_>>
-        ensures { MatchOption result (frame_line keyword (words_of words.now) ≡ None) (λ form.
-            frame_line keyword (words_of words.now) ≡ Some (line_words form)) }
-    {
-        match keyword {
-            FrameKeyword::Slot => Some(LineForm::Slot(SlotWords::parse(words)?)),
-            FrameKeyword::Result => Some(LineForm::Result(RangeWords::parse(words)?)),
-            FrameKeyword::At => Some(LineForm::At(PieceWords::parse(words)?)),
-        }
-    }
-
-    /// The line of a form.
-    fn of_form(keyword: FormKeyword, words: &[u8]) -> Option<LineForm<'_>>
-        ensures { MatchOption result (form_line keyword (words_of words.now) ≡ None) (λ form.
-            form_line keyword (words_of words.now) ≡ Some (line_words form)) }
-    {
-        let form = FormWord::parse(words)?;
-        match keyword {
-            FormKeyword::Guard => Some(LineForm::Guard(form)),
-            FormKeyword::Stack => Some(LineForm::Stack(form)),
-            FormKeyword::Cost => Some(LineForm::Cost(form)),
         }
     }
 }
 
 impl PlanWords<'_> {
     /// A name and two numbers.
-    fn parse(version: Version, bytes: &[u8]) -> Option<PlanWords<'_>>
-        ensures { MatchOption result
-            (title_line (number_of_version version) (words_of bytes.now) ≡ None)
-            (λ words. title_line (number_of_version version) (words_of bytes.now)
-            ≡ Some (PlanLine (plan_words words))) }
+    fn parse(version: u16, bytes: &[u8]) -> Option<PlanWords<'_>>
+        ensures { MatchOption result (title_line version (words_of bytes.now) ≡ None) (λ words.
+            title_line version (words_of bytes.now) ≡ Some (PlanLine (plan_words words))) }
     {
         let (name, rest) = cut_name(bytes)?;
         let (pieces, rest) = NumberWord::cut(rest)?;
@@ -215,13 +178,12 @@ impl ProcedureWords<'_> {
     }
 
     /// Whether the line of a procedure has these words in a plan of this version.
-    pub fn are_of(&self, version: Version) -> bool
-        ensures { result ≡
-            is_of_version (number_of_version version) (word_if_any self.now.results) }
+    pub fn are_of(&self, version: u16) -> bool
+        ensures { result ≡ is_of_version version (word_if_any self.now.results) }
     {
-        match version {
-            Version::One => self.results.is_none(),
-            Version::Two => self.results.is_some(),
+        match self.results {
+            None => version == 1,
+            Some(_) => version == 2,
         }
     }
 }
@@ -317,63 +279,35 @@ fn cut_form(bytes: &[u8]) -> Option<(FormWord<'_>, &[u8])>
 /// The word with which a line begins that has others after it.
 #[derive(Clone, Copy)]
 pub enum Keyword {
-    /// That of a plan's line.
-    Plan(Version),
-    /// One with which a part of the text begins.
-    Part(PartKeyword),
-    /// One of a line within a frame.
-    Frame(FrameKeyword),
-    /// One before a form.
-    Form(FormKeyword),
-    /// One of an instruction that names something, or of a raw byte.
-    Code(CodeKeyword),
-    /// One of an instruction that names nothing.
-    Plain(PlainKeyword),
-}
-
-/// A word with which a part of the text begins.
-#[derive(Clone, Copy)]
-pub enum PartKeyword {
+    Plan,
+    Plan2,
     Procedure,
     Exit,
+    Result,
     Label,
     Frame,
-}
-
-/// The word of a line within a frame.
-#[derive(Clone, Copy)]
-pub enum FrameKeyword {
     Slot,
-    Result,
-    At,
-}
-
-/// A word before a form.
-#[derive(Clone, Copy)]
-pub enum FormKeyword {
     Guard,
     Stack,
     Cost,
+    At,
+    /// That of a line of code.
+    Code(CodeKeyword),
 }
 
-/// The word of an instruction that names something, or of a raw byte.
+/// The word of an instruction that has operands, or of a raw byte.
 #[derive(Clone, Copy)]
 pub enum CodeKeyword {
-    Jump,
-    Down,
-    Pick,
-    Call,
-    Byte,
-}
-
-/// The word of an instruction that has operands and names nothing.
-#[derive(Clone, Copy)]
-pub enum PlainKeyword {
     Number(NumberKeyword),
     Ask,
     Grip,
     Step,
     Aside,
+    Jump,
+    Down,
+    Pick,
+    Call,
+    Byte,
 }
 
 /// The word of an instruction whose only operand is a number.
@@ -388,43 +322,43 @@ pub enum NumberKeyword {
 /// All keywords, as they are written: those first that texts have most of, since a word is looked for from
 /// the first on.
 const KEYWORDS: [(&[u8], Keyword); 25] = [
-    (b"at", Keyword::Frame(FrameKeyword::At)),
-    (b"slot", Keyword::Frame(FrameKeyword::Slot)),
-    (b"guard", Keyword::Form(FormKeyword::Guard)),
-    (b"stack", Keyword::Form(FormKeyword::Stack)),
-    (b"cost", Keyword::Form(FormKeyword::Cost)),
-    (b"frame", Keyword::Part(PartKeyword::Frame)),
-    (b"label", Keyword::Part(PartKeyword::Label)),
+    (b"at", Keyword::At),
+    (b"slot", Keyword::Slot),
+    (b"guard", Keyword::Guard),
+    (b"stack", Keyword::Stack),
+    (b"cost", Keyword::Cost),
+    (b"frame", Keyword::Frame),
+    (b"label", Keyword::Label),
     (
         b"push",
-        Keyword::Plain(PlainKeyword::Number(NumberKeyword::Push)),
+        Keyword::Code(CodeKeyword::Number(NumberKeyword::Push)),
     ),
     (
         b"load",
-        Keyword::Plain(PlainKeyword::Number(NumberKeyword::Load)),
+        Keyword::Code(CodeKeyword::Number(NumberKeyword::Load)),
     ),
     (
         b"store",
-        Keyword::Plain(PlainKeyword::Number(NumberKeyword::Store)),
+        Keyword::Code(CodeKeyword::Number(NumberKeyword::Store)),
     ),
-    (b"step", Keyword::Plain(PlainKeyword::Step)),
+    (b"step", Keyword::Code(CodeKeyword::Step)),
     (b"down", Keyword::Code(CodeKeyword::Down)),
-    (b"aside", Keyword::Plain(PlainKeyword::Aside)),
+    (b"aside", Keyword::Code(CodeKeyword::Aside)),
     (b"jump", Keyword::Code(CodeKeyword::Jump)),
-    (b"grip", Keyword::Plain(PlainKeyword::Grip)),
+    (b"grip", Keyword::Code(CodeKeyword::Grip)),
     (
         b"tray",
-        Keyword::Plain(PlainKeyword::Number(NumberKeyword::Tray)),
+        Keyword::Code(CodeKeyword::Number(NumberKeyword::Tray)),
     ),
-    (b"ask", Keyword::Plain(PlainKeyword::Ask)),
+    (b"ask", Keyword::Code(CodeKeyword::Ask)),
     (b"call", Keyword::Code(CodeKeyword::Call)),
     (b"byte", Keyword::Code(CodeKeyword::Byte)),
     (b"pick", Keyword::Code(CodeKeyword::Pick)),
-    (b"proc", Keyword::Part(PartKeyword::Procedure)),
-    (b"exit", Keyword::Part(PartKeyword::Exit)),
-    (b"result", Keyword::Frame(FrameKeyword::Result)),
-    (b"plan", Keyword::Plan(Version::One)),
-    (b"plan2", Keyword::Plan(Version::Two)),
+    (b"proc", Keyword::Procedure),
+    (b"exit", Keyword::Exit),
+    (b"result", Keyword::Result),
+    (b"plan", Keyword::Plan),
+    (b"plan2", Keyword::Plan2),
 ];
 
 impl Keyword {

@@ -4,19 +4,18 @@ ghost use Rattle.std.specs.Prelude.{◌<◌, ◌≤◌, ◌≤ℤ◌, if◌then�
 ghost use Rattle.std.specs.Int.{w16, w32};
 ghost use Rattle.burr_code.specs.Instruction.{IsInNumberRange};
 ghost use Rattle.burr_code.specs.declared.limits.TheConstants.{MOST_BUDGET, SLOTS, TRAYS};
-ghost use Rattle.burr_code.specs.declared.limits.TheConstants.{MOST_PARAMETERS};
 ghost use Rattle.burr_asm.specs.declared.text.numbers.TheConstants.{MOST_RESULTS};
 ghost use Rattle.burr_asm.specs.Views.LineWords.{word_if_any};
 ghost use Rattle.burr_asm.specs.Views.Numbers.{IsBelow, IsWithin, IsOperand, AreEnds, IsOfWidth};
 ghost use Rattle.burr_asm.specs.Views.Numbers.{IsResultCount};
 
 use crate::text::words::NumberWord;
-use burr_code::limits::{MOST_BUDGET, MOST_PARAMETERS, SLOTS, TRAYS};
+use burr_code::limits::{MOST_BUDGET, SLOTS, TRAYS};
 
 /// The fewest and the most pieces of a plan.
-const FEWEST_PIECES: u8 = 2;
+pub const FEWEST_PIECES: u8 = 2;
 
-const MOST_PIECES: u8 = 32;
+pub const MOST_PIECES: u8 = 32;
 
 /// The most results of a procedure.
 const MOST_RESULTS: u8 = 2;
@@ -43,7 +42,7 @@ pub fn index(number: NumberWord<'_>) -> Option<usize>
 }
 
 /// A number that is at least the one, and at most the other.
-fn within(number: NumberWord<'_>, least: u8, most: u8) -> Option<u8>
+pub fn within(number: NumberWord<'_>, least: u8, most: u8) -> Option<u8>
     ensures few { IfSome result (λ found. found ≤ most) }
     ensures many { IfSome result (λ found. least ≤ found) }
     ensures value { IsWithin least most number.entry.bytes.now result }
@@ -52,29 +51,12 @@ fn within(number: NumberWord<'_>, least: u8, most: u8) -> Option<u8>
     (least <= found && found <= most).then_some(found)
 }
 
-/// How many pieces a plan is for: 2 to 32.
-pub fn piece_count(number: NumberWord<'_>) -> Option<u8>
-    ensures few { IfSome result (λ count. count ≤ 32) }
-    ensures several { IfSome result (λ count. 2 ≤ count) }
-    ensures value { IsWithin 2 32 number.entry.bytes.now result }
-{
-    within(number, FEWEST_PIECES, MOST_PIECES)
-}
-
 /// The budget of a plan: 1 to 1,000,000.
 pub fn budget(number: NumberWord<'_>) -> Option<u32>
     ensures { IsWithin 1 MOST_BUDGET number.entry.bytes.now result }
 {
     let budget = long(number)?;
     (1 <= budget && budget <= MOST_BUDGET).then_some(budget)
-}
-
-/// How many parameters a procedure has: none for main, else 0 to 4.
-pub fn parameter_count(number: NumberWord<'_>, main: bool) -> Option<u8>
-    ensures few { IfSome result (λ count. count ≤ MOST_PARAMETERS) }
-    ensures value { IsWithin 0 (if main then 0 else MOST_PARAMETERS) number.entry.bytes.now result }
-{
-    count_of(number, main, MOST_PARAMETERS)
 }
 
 /// How many results a procedure has: none for main, else 0 to 2; none too where nothing is said of
@@ -89,8 +71,8 @@ pub fn result_count(number: Option<NumberWord<'_>>, main: bool) -> Option<u8>
     }
 }
 
-/// A number from 0 to `most`; for main only 0.
-fn count_of(number: NumberWord<'_>, main: bool, most: u8) -> Option<u8>
+/// How many parameters or results a procedure has: none for main, else 0 to `most`.
+pub fn count_of(number: NumberWord<'_>, main: bool, most: u8) -> Option<u8>
     ensures few { IfSome result (λ count. count ≤ most) }
     ensures value { IsWithin 0 (if main then 0 else most) number.entry.bytes.now result }
 {

@@ -4,20 +4,17 @@ ghost use Rattle.burr_asm.specs.Views.Exits.{IsSignature};
 ghost use Rattle.burr_asm.specs.Views.Faults.{IsRefusal, IsUnknown};
 ghost use Rattle.burr_asm.specs.Views.LineWords.{plan_words, procedure_words};
 ghost use Rattle.burr_asm.specs.Views.Routines.{are_counts, begun, ends_with_label};
-ghost use Rattle.burr_asm.specs.Views.Routines.{head_refusal};
-ghost use Rattle.burr_asm.specs.Views.Routines.{plan_of_outline, procedures_of, titled_outline};
-ghost use Rattle.burr_asm.specs.Views.Routines.{unknown_among, unknown_line, with_name};
-ghost use Rattle.burr_asm.specs.Views.Routines.{with_routine, IsLabelAtEnd};
-ghost use Rattle.burr_asm.specs.Views.Versions.{number_of_version};
+ghost use Rattle.burr_asm.specs.Views.Routines.{head_refusal, plan_of_outline, procedures_of};
+ghost use Rattle.burr_asm.specs.Views.Routines.{titled_outline, unknown_among, unknown_line};
+ghost use Rattle.burr_asm.specs.Views.Routines.{with_name, with_routine, IsLabelAtEnd};
 
 use crate::fault::AsmFault;
-use crate::text::front::Version;
 use crate::text::line::{PlanWords, ProcedureWords};
 use crate::text::names::Names;
-use crate::text::numbers::{budget, parameter_count, piece_count, result_count};
+use crate::text::numbers::{FEWEST_PIECES, MOST_PIECES, budget, count_of, result_count, within};
 use crate::text::procedure::Routine;
 use crate::text::signature::Signature;
-use burr_code::limits::MOST_PROCEDURES;
+use burr_code::limits::{MOST_PARAMETERS, MOST_PROCEDURES};
 use burr_container::{Plan, Procedure};
 use std::alloc::Global;
 use std::marker::Model;
@@ -27,7 +24,7 @@ use std::mem::replace;
 /// have begun, and those that have ended.
 #[derive(Drop)]
 pub struct Outline<'a> {
-    version: Version,
+    version: u16,
     name: &'a [u8],
     pieces: u8,
     budget: u32,
@@ -38,13 +35,12 @@ pub struct Outline<'a> {
 impl<'a> Model for Outline<'a> {
     ghost use Rattle.std.specs.Prelude.{◌≤◌};
     ghost use Rattle.burr_asm.specs.Views.Routines.{OutlineParts};
-    ghost use Rattle.burr_asm.specs.Views.Versions.{number_of_version};
 
     ghost Value = { OutlineParts };
 
     ghost view = { λ o.
         record {
-          version = number_of_version o.version;
+          version = o.version;
           name = o.name.now;
           pieces = o.pieces;
           budget = o.budget;
@@ -63,7 +59,10 @@ impl<'a> Outline<'a> {
             × (outline ≡ titled_outline (plan_words words.entry)))
             (IsRefusal (title_check (plan_words words.entry)) line) }
     {
-        match (piece_count(words.pieces), budget(words.budget)) {
+        match (
+            within(words.pieces, FEWEST_PIECES, MOST_PIECES),
+            budget(words.budget),
+        ) {
             (Some(pieces), Some(budget)) => Ok(Outline {
                 version: words.version,
                 name: words.name,
@@ -77,8 +76,8 @@ impl<'a> Outline<'a> {
     }
 
     /// The version of the plan.
-    pub fn version(&self) -> Version
-        ensures { number_of_version result ≡ self.now.version }
+    pub fn version(&self) -> u16
+        ensures { result ≡ self.now.version }
     {
         self.version
     }
@@ -129,7 +128,7 @@ impl<'a> Outline<'a> {
         let main = self.ended.is_empty();
         Some(Signature {
             version: self.version,
-            parameters: parameter_count(words.parameters, main)?,
+            parameters: count_of(words.parameters, main, MOST_PARAMETERS)?,
             results: result_count(words.results, main)?,
         })
     }
@@ -172,7 +171,7 @@ impl<'a> Outline<'a> {
         let name = Vec::from_slice(alloc, self.name)?;
         let procs = resolved(alloc, self.ended, &self.names)?;
         Ok(Plan {
-            version: self.version.number(),
+            version: self.version,
             name,
             pieces: self.pieces,
             budget: self.budget,

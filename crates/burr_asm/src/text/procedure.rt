@@ -1,16 +1,16 @@
 ghost use Rattle.std.specs.Prelude.{◌≡◌, if◌then◌else◌, IfOk, MatchResult, None, Some};
-ghost use Rattle.burr_asm.specs.Views.CodeParts.{code_of_all, code_refusal, first_unknown, with_statement};
+ghost use Rattle.burr_asm.specs.Views.CodeParts.{code_of_all, code_refusal, first_unknown, numbered, with_statement};
 ghost use Rattle.burr_asm.specs.Views.Faults.{IsRefusal, IsUnknown};
 ghost use Rattle.burr_asm.specs.Views.LineWords.{code_words};
 ghost use Rattle.burr_asm.specs.Views.Routines.{begun, ends_with_label, label_refusal};
 ghost use Rattle.burr_asm.specs.Views.Routines.{procedure_of, with_frame, with_label};
 
 use crate::fault::AsmFault;
-use crate::text::code::{Code, CodeLine};
+use crate::text::code::CodeLine;
 use crate::text::names::Names;
 use crate::text::signature::Signature;
-use crate::text::statement::Scope;
-use burr_code::limits::MOST_LABELS;
+use crate::text::statement::Statement;
+use burr_code::limits::{MOST_CODE, MOST_LABELS};
 use burr_container::{ExitFrame, Frame, Procedure};
 use std::alloc::{AllocError, Global};
 use std::marker::Model;
@@ -25,10 +25,15 @@ pub struct Routine<'a> {
     labels: Vec<(u16, Frame)>,
     /// The line of the last label.
     last: usize,
-    code: Code<'a>,
+    statements: Vec<Statement<'a>>,
+    /// How many bytes the statements have: at most 4,096.
+    size: usize,
 }
 
 impl<'a> Model for Routine<'a> {
+    ghost use Rattle.std.specs.Prelude.{◌≤◌};
+    ghost use Rattle.burr_code.specs.declared.limits.TheConstants.{MOST_CODE};
+    ghost use Rattle.burr_asm.specs.Views.CodeParts.{numbered};
     ghost use Rattle.burr_asm.specs.Views.Routines.{RoutineParts};
 
     ghost Value = { RoutineParts };
@@ -40,8 +45,10 @@ impl<'a> Model for Routine<'a> {
           names = r.names;
           labels = r.labels.items;
           last = r.last;
-          code = r.code;
+          code = record { statements = numbered r.statements.items; size = r.size };
         } };
+
+    ghost invariant = { λ r. r.size ≤ MOST_CODE };
 }
 
 impl<'a> Routine<'a> {
@@ -55,7 +62,8 @@ impl<'a> Routine<'a> {
             names: Names::new(alloc),
             labels: Vec::new(alloc),
             last: 0,
-            code: Code::new(alloc),
+            statements: Vec::new(alloc),
+            size: 0,
         }
     }
 
@@ -103,11 +111,11 @@ impl<'a> Routine<'a> {
     pub fn add_frame(&mut self, frame: Frame) -> Result<(), AllocError>
         ensures { IfOk result (λ _done. self.new ≡ with_frame self.old frame) }
     {
-        self.labels.push((self.code.size(), frame))?;
+        self.labels.push((self.size as u16, frame))?;
         Ok(())
     }
 
-    /// One more line after its code.
+    /// One more line after its code, if it is in range and there is room.
     pub fn add_code(&mut self, code: CodeLine<'a>, line: usize) -> Result<(), AsmFault>
         ensures { let words = code_words code.entry in
             MatchResult result
@@ -115,7 +123,15 @@ impl<'a> Routine<'a> {
             × (self.new ≡ record self.old { code = with_statement self.old.code line words }))
             (IsRefusal (code_refusal self.old.code words) line) }
     {
-        self.code.add(code, line)
+        let Some(size) = code.size() else {
+            return Err(AsmFault::P3 { line });
+        };
+        if size > MOST_CODE - self.size {
+            return Err(AsmFault::P4 { line });
+        }
+        self.statements.push(Statement { line, code })?;
+        self.size += size;
+        Ok(())
     }
 
     /// Whether the last label stands at the end of the code.
@@ -123,7 +139,7 @@ impl<'a> Routine<'a> {
         ensures { result ≡ ends_with_label self.now }
     {
         match self.labels.last() {
-            Some((position, _frame)) => *position == self.code.size(),
+            Some((position, _frame)) => usize::from(*position) == self.size,
             None => false,
         }
     }
@@ -146,7 +162,7 @@ impl<'a> Routine<'a> {
             (IsUnknown
             (first_unknown self.entry.names procedures.now self.entry.code.statements)) }
     {
-        let code = self.encode(alloc, procedures)?;
+        let code = encode_all(alloc, &self.statements, self.size, &self.names, procedures)?;
         Ok(Procedure {
             params: self.signature.parameters,
             results: self.signature.results,
@@ -155,21 +171,25 @@ impl<'a> Routine<'a> {
             code,
         })
     }
+}
 
-    /// The bytes of its code.
-    fn encode(&self, alloc: Global, procedures: &Names<'_>) -> Result<Vec<u8>, AsmFault>
-        ensures { MatchResult result
-            (λ bytes.
-            (first_unknown self.now.names procedures.now self.now.code.statements ≡ None)
-            × (bytes.items
-            ≡ code_of_all self.now.names procedures.now self.now.code.statements))
-            (IsUnknown
-            (first_unknown self.now.names procedures.now self.now.code.statements)) }
-    {
-        let scope = Scope {
-            labels: &self.names,
-            procedures,
-        };
-        self.code.encode(alloc, scope)
+/// The bytes of statements, `size` in all; else the fault of the first in which an unknown name stands.
+fn encode_all(
+    alloc: Global,
+    statements: &[Statement<'_>],
+    size: usize,
+    labels: &Names<'_>,
+    procedures: &Names<'_>,
+) -> Result<Vec<u8>, AsmFault>
+    ensures { let code = numbered statements.now in
+        MatchResult result
+        (λ bytes. (first_unknown labels.now procedures.now code ≡ None)
+        × (bytes.items ≡ code_of_all labels.now procedures.now code))
+        (IsUnknown (first_unknown labels.now procedures.now code)) }
+{
+    let mut code = Vec::with_capacity(alloc, size)?;
+    for statement in statements {
+        code.extend_from_slice(&statement.encode(alloc, labels, procedures)?)?;
     }
+    Ok(code)
 }

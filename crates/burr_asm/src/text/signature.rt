@@ -2,13 +2,12 @@ ghost use Rattle.std.specs.Prelude.{◌≡◌, ◌≤◌};
 ghost use Rattle.burr_code.specs.declared.limits.TheConstants.{MOST_PARAMETERS};
 ghost use Rattle.burr_container.specs.Rules.Plans.{exit_symbols};
 
-use crate::text::front::Version;
 use burr_code::limits::SLOTS;
 
 /// What a procedure takes and gives, and the version of its plan: what its exit frame may say.
 #[derive(Clone, Copy)]
 pub struct Signature {
-    pub version: Version,
+    pub version: u16,
     /// How many parameters it has: 0 to 4.
     pub parameters: u8,
     /// How many results it has: 0 to 2, in version 1 none.

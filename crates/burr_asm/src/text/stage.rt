@@ -1,10 +1,9 @@
 ghost use Rattle.std.specs.Prelude.{◌≡◌, ◌≤◌};
-ghost use Rattle.burr_plantext.specs.Rules.Lines.{AtLine};
 ghost use Rattle.burr_plantext.specs.Rules.Texts.{first_word};
-ghost use Rattle.burr_asm.specs.Views.LineWords.{line_words, piece_words};
+ghost use Rattle.burr_asm.specs.Views.LineWords.{line_words};
 ghost use Rattle.burr_asm.specs.Views.Routines.{RoutineParts};
 ghost use Rattle.burr_asm.specs.Views.Steps.{misses_part, EndsStage, GivesInAny, GivesStage};
-ghost use Rattle.burr_asm.specs.Views.Steps.{changed, stage_after};
+ghost use Rattle.burr_asm.specs.Views.Steps.{stage_after};
 ghost use Rattle.burr_asm.specs.declared.text.stage.Stage.TheVariants.{AwaitsExit, AwaitsFrame};
 ghost use Rattle.burr_asm.specs.declared.text.stage.Stage.TheVariants.{AwaitsLabel, AwaitsPieces};
 ghost use Rattle.burr_asm.specs.declared.text.stage.Stage.TheVariants.{InCode, InExit, InFrame};
@@ -12,7 +11,7 @@ ghost use Rattle.burr_asm.specs.declared.text.stage.Stage.TheVariants.{InCode, I
 use crate::fault::AsmFault;
 use crate::text::exit::Exit;
 use crate::text::frame::{Conditions, Grip, add_piece, take_frame};
-use crate::text::line::{LineForm, PieceWords};
+use crate::text::line::LineForm;
 use crate::text::procedure::Routine;
 use crate::text::words::first_word;
 use burr_container::Frame;
@@ -57,35 +56,14 @@ impl Stage {
         match self {
             Stage::InCode => Ok(()),
             Stage::AwaitsLabel | Stage::AwaitsFrame => Err(AsmFault::P5 { line }),
-            Stage::AwaitsExit | Stage::InExit(_) | Stage::InFrame(_) | Stage::AwaitsPieces(_) =>
-                Err(AsmFault::P1 { line }),
+            _ => Err(AsmFault::P1 { line }),
         }
     }
 
-    /// Adds one more line, of this form, to the procedure; the plan has this many pieces. A `proc`
-    /// line is refused at every stage: the one that may stand after a frame is for the caller.
-    pub fn add<'a>(
-        &mut self,
-        alloc: Global,
-        routine: &mut Routine<'a>,
-        pieces: u8,
-        form: LineForm<'a>,
-        line: usize,
-    ) -> Result<(), AsmFault>
-        requires few { pieces ≤ 32 }
-        requires several { 2 ≤ pieces }
-        ensures { let given = line_words form.entry in
-            GivesStage self.old routine.old pieces given line routine.new
-            (changed self.new result) }
-    {
-        if let Some(next) = self.next(alloc, routine, pieces, form, line)? {
-            *self = next;
-        }
-        Ok(())
-    }
-
-    /// The stage after one more line; None where this one goes on.
-    fn next<'a>(
+    /// Adds one more line, of this form, to the procedure; the plan has this many pieces. Gives the
+    /// stage after it; None where this one goes on. A `proc` line is refused at every stage: the one
+    /// that may stand after a frame is for the caller.
+    pub fn next<'a>(
         &mut self,
         alloc: Global,
         routine: &mut Routine<'a>,
@@ -225,25 +203,9 @@ fn in_pieces(
         GivesStage (AwaitsPieces frame.old) routine.old pieces given line routine.new
         (stage_after (AwaitsPieces frame.new) result) }
 {
-    match form {
-        LineForm::At(words) => with_piece(alloc, routine, frame, pieces, words, line),
-        _ => Err(AsmFault::P1 { line }),
-    }
-}
-
-/// A line `at` of a label's frame.
-fn with_piece(
-    alloc: Global,
-    routine: &mut Routine<'_>,
-    frame: &mut Frame,
-    pieces: u8,
-    words: PieceWords<'_>,
-    line: usize,
-) -> Result<Option<Stage>, AsmFault>
-    ensures { let given = AtLine (piece_words words.entry) in
-        GivesStage (AwaitsPieces frame.old) routine.old pieces given line routine.new
-        (stage_after (AwaitsPieces frame.new) result) }
-{
+    let LineForm::At(words) = form else {
+        return Err(AsmFault::P1 { line });
+    };
     add_piece(frame, words, line)?;
     if frame.places.len() != usize::from(pieces) {
         return Ok(None);

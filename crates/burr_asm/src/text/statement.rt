@@ -1,10 +1,8 @@
-ghost use Rattle.std.specs.Prelude.{◌≡◌, ◌≤◌, ◌++◌, ◌∷◌, [], false, map, not, true, IsTrue, MatchResult};
+ghost use Rattle.std.specs.Prelude.{◌≡◌, ◌++◌, ◌∷◌, [], false, map, not, true, IsTrue, MatchResult};
 ghost use Rattle.std.specs.List.{list_all};
 ghost use Rattle.burr_code.specs.Instruction.{label_bytes, spelled};
-ghost use Rattle.burr_code.specs.declared.limits.TheConstants.{SLOTS};
 ghost use Rattle.burr_plantext.specs.Rules.Checks.{is_in_range, is_known, names_unknown};
 ghost use Rattle.burr_plantext.specs.Rules.Meaning.{number_of, statement_bytes};
-ghost use Rattle.burr_plantext.specs.Rules.Written.{is_below, natural_in};
 ghost use Rattle.burr_plantext.specs.Rules.Texts.{words_of};
 ghost use Rattle.burr_asm.specs.Views.Faults.{IsUnknownAt};
 ghost use Rattle.burr_asm.specs.Views.LineWords.{code_words};
@@ -15,7 +13,6 @@ use crate::fault::AsmFault;
 use crate::text::code::CodeLine;
 use crate::text::names::{Names, OfferWords};
 use crate::text::numbers::slot;
-use crate::text::words::NumberWord;
 use burr_code::{Instr, Labels, encode};
 use burr_text::cut_at;
 use std::alloc::Global;
@@ -29,23 +26,19 @@ pub struct Statement<'a> {
     ghost in_range: { IsTrue (is_in_range (code_words code)) },
 }
 
-/// What the names in code stand for.
-#[derive(Clone, Copy)]
-pub struct Scope<'n, 'a> {
-    pub labels: &'n Names<'a>,
-    pub procedures: &'n Names<'a>,
-}
-
 impl Statement<'_> {
     /// Its bytes; else its line's fault, where a name is unknown.
-    pub fn encode(&self, alloc: Global, scope: Scope<'_, '_>) -> Result<Vec<u8>, AsmFault>
-        ensures { let labels = scope.entry.labels.now in
-            let procedures = scope.entry.procedures.now in
-            let words = code_words self.now.code in
+    pub fn encode(
+        &self,
+        alloc: Global,
+        labels: &Names<'_>,
+        procedures: &Names<'_>,
+    ) -> Result<Vec<u8>, AsmFault>
+        ensures { let words = code_words self.now.code in
             MatchResult result
-            (λ bytes. (names_unknown labels procedures words ≡ false)
-            × (bytes.items ≡ statement_bytes labels procedures words))
-            (IsUnknownAt (names_unknown labels procedures words) self.now.line) }
+            (λ bytes. (names_unknown labels.now procedures.now words ≡ false)
+            × (bytes.items ≡ statement_bytes labels.now procedures.now words))
+            (IsUnknownAt (names_unknown labels.now procedures.now words) self.now.line) }
     {
         let line = self.line;
         match self.code {
@@ -53,10 +46,22 @@ impl Statement<'_> {
                 Some(instr) => Ok(encode(alloc, &instr)?),
                 None => unreachable!(),
             },
-            CodeLine::Jump(label) => jump(alloc, scope, label, line),
-            CodeLine::Down(slot, label) => down(alloc, scope, slot, label, line),
-            CodeLine::Pick(labels) => pick(alloc, scope.labels, labels, line),
-            CodeLine::Call(procedure) => call(alloc, scope, procedure, line),
+            CodeLine::Jump(label) => {
+                let label = known(labels, label, line)?;
+                Ok(encode(alloc, &Instr::Jump(u16::from(label)))?)
+            }
+            CodeLine::Down(word, label) => {
+                let label = known(labels, label, line)?;
+                match slot(word) {
+                    Some(slot) => Ok(encode(alloc, &Instr::Down(slot, u16::from(label)))?),
+                    None => unreachable!(),
+                }
+            }
+            CodeLine::Pick(offer) => pick(alloc, labels, offer, line),
+            CodeLine::Call(procedure) => {
+                let procedure = known(procedures, procedure, line)?;
+                Ok(encode(alloc, &Instr::Call(procedure))?)
+            }
             CodeLine::Byte(byte) => Ok(Vec::from_slice(alloc, &[byte])?),
         }
     }
@@ -73,58 +78,6 @@ fn known(names: &Names<'_>, name: &[u8], line: usize) -> Result<u8, AsmFault>
         Some(number) => Ok(number),
         None => Err(AsmFault::P2 { line }),
     }
-}
-
-/// The bytes of a `jump` to the label of this name.
-fn jump(alloc: Global, scope: Scope<'_, '_>, label: &[u8], line: usize) -> Result<Vec<u8>, AsmFault>
-    ensures { MatchResult result
-        (λ bytes. (is_known scope.entry.labels.now label.now ≡ true)
-        × (bytes.items
-        ≡ spelled (instruction.Jump (number_of scope.entry.labels.now label.now))))
-        (IsUnknownAt (not (is_known scope.entry.labels.now label.now)) line) }
-{
-    let label = known(scope.labels, label, line)?;
-    Ok(encode(alloc, &Instr::Jump(u16::from(label)))?)
-}
-
-/// The bytes of a `down` with the slot of a word and the label of this name.
-fn down(
-    alloc: Global,
-    scope: Scope<'_, '_>,
-    word: NumberWord<'_>,
-    label: &[u8],
-    line: usize,
-) -> Result<Vec<u8>, AsmFault>
-    requires { is_below SLOTS word.bytes.now ≡ true }
-    ensures { MatchResult result
-        (λ bytes. (is_known scope.entry.labels.now label.now ≡ true)
-        × (bytes.items ≡ spelled
-        (instruction.Down (natural_in word.entry.bytes.now)
-        (number_of scope.entry.labels.now label.now))))
-        (IsUnknownAt (not (is_known scope.entry.labels.now label.now)) line) }
-{
-    let label = known(scope.labels, label, line)?;
-    match slot(word) {
-        Some(slot) => Ok(encode(alloc, &Instr::Down(slot, u16::from(label)))?),
-        None => unreachable!(),
-    }
-}
-
-/// The bytes of a `call` of the procedure of this name.
-fn call(
-    alloc: Global,
-    scope: Scope<'_, '_>,
-    procedure: &[u8],
-    line: usize,
-) -> Result<Vec<u8>, AsmFault>
-    ensures { MatchResult result
-        (λ bytes. (is_known scope.entry.procedures.now procedure.now ≡ true)
-        × (bytes.items
-        ≡ spelled (instruction.Call (number_of scope.entry.procedures.now procedure.now))))
-        (IsUnknownAt (not (is_known scope.entry.procedures.now procedure.now)) line) }
-{
-    let procedure = known(scope.procedures, procedure, line)?;
-    Ok(encode(alloc, &Instr::Call(procedure))?)
 }
 
 /// The bytes of a `pick` that offers the labels of these names.

@@ -36,14 +36,6 @@ impl<'a> NumberWord<'a> {
         }
     }
 
-    /// The number that all of these bytes are known to be.
-    pub fn of(bytes: &'a [u8]) -> NumberWord<'a>
-        requires { IsTrue (is_number bytes.now) }
-        ensures { result.bytes.now ≡ bytes.now }
-    {
-        NumberWord { bytes }
-    }
-
     /// A number up to the first blank, and what stands after the blank.
     pub fn cut(bytes: &'a [u8]) -> Option<(NumberWord<'a>, &'a [u8])>
         ensures { MatchOption result (cut_word is_number (words_of bytes.now) ≡ None) (λ parts.
@@ -144,14 +136,6 @@ impl<'a> SetWord<'a> {
             None
         }
     }
-
-    /// Its bytes.
-    fn bytes(self) -> &'a [u8]
-        ensures bytes { result.now ≡ self.entry.bytes.now }
-        ensures set { IsTrue (is_set self.entry.bytes.now) }
-    {
-        self.bytes
-    }
 }
 
 /// Whether the bytes are of the form of a set of pieces.
@@ -181,13 +165,12 @@ pub fn piece_set(word: SetWord<'_>, bound: u8) -> Option<u32>
     requires { bound ≤ 32 }
     ensures { IsSetBelow bound word.entry.bytes.now result }
 {
-    let bytes = word.bytes();
-    if bytes == b"-".as_slice() {
+    if word.bytes == b"-".as_slice() {
         return Some(0);
     }
     let mut set = 0;
     let mut least = 0;
-    let mut rest = bytes;
+    let mut rest = word.bytes;
     while let Some((number, more)) = cut_at(rest, b',') {
         let piece = member(NumberWord::parse(number)?, least, bound)?;
         set |= 1u32 << piece;

@@ -6,7 +6,7 @@ use Rattle.burr_asm.proofs.Words.{cut_shorter}
 use Rattle.burr_asm.proofs.text.words.piece_set.Goals as goal
 
 pub loop-number-init : goal.loop-number-init
-loop-number-init c = set_begins _ _ _ _ c.bytes-bytes.ensures.bytes c.bytes-bytes.ensures.set c.as_slice.ensures c.if-eq.ensures
+loop-number-init c = set_begins _ _ _ c.args.word.formed c.as_slice.ensures c.if-eq.ensures
 
 pub loop-number-preserved : goal.loop-number-preserved
 loop-number-preserved c =
@@ -29,7 +29,7 @@ pub returns-in_err-piece-2 : goal.returns-in_err-piece-2
 returns-in_err-piece-2 c = rw c.from_residual-in_err-piece-2.ensures (no_member _ _ _ _ _ c.loop-number.invariant _ _ (pieces_uncut _ _ c.in_default.ensures) _ c.in_ok-parse-2.ensures.1 c.in_err-piece-2.ensures)
 
 pub returns-then-eq : goal.returns-then-eq
-returns-then-eq c = no_pieces _ _ _ _ c.bytes-bytes.ensures.bytes c.as_slice.ensures c.if-eq.ensures
+returns-then-eq c = no_pieces _ _ _ c.as_slice.ensures c.if-eq.ensures
 
 pub member-requires : goal.member-requires
 member-requires c = c.requires

@@ -1,5 +1,5 @@
 use Rattle.std.specs.List.{list_all}
-use Rattle.std.proofs.Common.{subst, sym, ◌∙◌, List, ℕ, IsTrue}
+use Rattle.std.proofs.Common.{subst, sym, ap, ◌∙◌, List, ℕ, true≢false}
 use Rattle.std.specs.Prelude.{take}
 use Rattle.burr_asm.specs.Views.Forms.{IsConstantCut}
 use Rattle.std.proofs.lemmas.Bool.{and_parts}
@@ -29,13 +29,13 @@ pub returns-in_err-coefs : goal.returns-in_err-coefs
 returns-in_err-coefs c = rw c.from_residual-in_err-coefs.ensures (coefficient_fails _ _ _ _ _ c.loop-term.invariant _ _ _ c.in-Some.ensures c.in_err-coefs.ensures)
 
 pub returns-in_err-constant : goal.returns-in_err-constant
-returns-in_err-constant c = rw c.from_residual-in_err-constant.ensures (constant_fails c.args.live.now c.args.self.bytes.now c.of.result.bytes.now (c.of.ensures ∙ c.split_at.ensures.front ∙ c.args.self.cut.1.constant) c.in_err-constant.ensures)
+returns-in_err-constant c = rw c.from_residual-in_err-constant.ensures (constant_fails c.args.live.now c.args.self.bytes.now c.in_ok-parse.field-0.bytes.now (c.in_ok-parse.ensures.1 ∙ c.split_at.ensures.front ∙ c.args.self.cut.1.constant) c.in_err-constant.ensures)
 
 pub returns : goal.returns
-returns c = form_ends _ _ _ _ _ c.loop-term.invariant c.in_default.ensures c.told-live c.of.result.bytes.now _ (c.of.ensures ∙ c.split_at.ensures.front ∙ c.args.self.cut.1.constant) c.in_ok-constant.ensures.0 c.in_ok-constant.ensures.1
+returns c = form_ends _ _ _ _ _ c.loop-term.invariant c.in_default.ensures c.told-live c.in_ok-parse.field-0.bytes.now _ (c.in_ok-parse.ensures.1 ∙ c.split_at.ensures.front ∙ c.args.self.cut.1.constant) c.in_ok-constant.ensures.0 c.in_ok-constant.ensures.1
 
-pub of-requires : goal.of-requires
-of-requires c =
+pub returns-in_err-parse : goal.returns-in_err-parse
+returns-in_err-parse c =
     let word = c.args.self.bytes.now in
     let written = (and_parts (is_number (constant_word word)) (list_all is_term (term_words word)) c.args.self.formed).0 in
-    subst (λ (w : List ℕ). IsTrue (is_number w)) (sym (c.split_at.ensures.front ∙ c.args.self.cut.1.constant)) written
+    absurd (true≢false (sym written ∙ ap is_number (sym (c.split_at.ensures.front ∙ c.args.self.cut.1.constant)) ∙ c.in_err-parse.ensures))

@@ -9,9 +9,8 @@ use Rattle.burr_asm.proofs.text.outline.Outline.begin.Goals as goal
 
 pub returns-then-count-ge-MOST_PROCEDURES : goal.returns-then-count-ge-MOST_PROCEDURES
 returns-then-count-ge-MOST_PROCEDURES c =
-    head_full c.args.self.now (procedure_words c.args.words) c.args.line c.count.result c.self.inside.names
-    (ap (λ (o : OutlineParts). o.names) c.self.view_is)
-    (c.if-is_some.ensures ∙ ap is_some c.number.ensures) c.in-Some.ensures.0 c.count.ensures c.if-count-ge-MOST_PROCEDURES.true
+    head_full c.args.self.now (procedure_words c.args.words) c.args.line c.self.inside.names (ap (λ (o : OutlineParts). o.names) c.self.view_is)
+    (c.if-is_some.ensures ∙ ap is_some c.number.ensures) c.count.result c.in-Some.ensures.0 c.count.ensures c.if-count-ge-MOST_PROCEDURES.true
 
 pub returns-then-is_some : goal.returns-then-is_some
 returns-then-is_some c =
@@ -32,9 +31,8 @@ add-requires-clause-new c = no_number _ _ (c.if-is_some.ensures ∙ ap is_some c
 pub returns : goal.returns
 returns c =
     let signature = ap (λ (r : RoutineParts). r.signature) c.new.ensures in (
-      head_passed c.args.self.now (procedure_words c.args.words) c.count.result c.self.inside.names
-          (ap (λ (o : OutlineParts). o.names) c.self.view_is)
-          (c.if-is_some.ensures ∙ ap is_some c.number.ensures) c.in-Some.ensures.0 c.count.ensures c.if-count-ge-MOST_PROCEDURES.false,
+      head_passed c.args.self.now (procedure_words c.args.words) c.args.line c.self.inside.names (ap (λ (o : OutlineParts). o.names) c.self.view_is)
+          (c.if-is_some.ensures ∙ ap is_some c.number.ensures) c.count.result c.in-Some.ensures.0 c.count.ensures c.if-count-ge-MOST_PROCEDURES.false,
       c.new.ensures ∙ ap begun (sym signature),
       subst (λ (s : Signature). IsSignature s c.args.self.now.version (procedure_words c.args.words)) (sym signature) c.in-Some.ensures.1,
       search rules,
