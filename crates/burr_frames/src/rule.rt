@@ -11,61 +11,61 @@ use thiserror::Error;
 #[derive(Clone, Copy, Debug, PartialEq, Eq)]
 pub enum Rule {
     /// V1: the plan is for another assembly: its name or its number of pieces differs.
-    OtherAssembly,
+    OtherAssembly = 1,
     /// V2: no instruction stands at this position.
-    BadCode,
+    BadCode = 2,
     /// V3: a label stands inside an instruction.
-    BadLabel,
+    BadLabel = 3,
     /// V4: a frame is missing: nothing goes on to here, and no label stands here.
-    MissingFrame,
+    MissingFrame = 4,
     /// V5: the procedure goes on after its last instruction.
-    UnendedCode,
+    UnendedCode = 5,
     /// V6: the instruction takes more operands than there are.
-    MissingOperand,
+    MissingOperand = 6,
     /// V7: the stack is full, and there would be one operand more.
-    StackFull,
+    StackFull = 7,
     /// V8: nothing is known of the slot's value.
-    EmptySlot,
+    EmptySlot = 8,
     /// V9: the slot that would be written is a parameter.
-    ParamWritten,
+    ParamWritten = 9,
     /// V10: the procedure has no such label.
-    BadJump,
+    BadJump = 10,
     /// V11: the counter may be below zero.
-    BadCount,
+    BadCount = 11,
     /// V12: a number may be out of its range.
-    NumberRange,
+    NumberRange = 12,
     /// V13: a piece that would be gripped is not in the current tray.
-    GripOff,
+    GripOff = 13,
     /// V14: the grip is empty, or `aside` would take the whole tray.
-    BadGroup,
+    BadGroup = 14,
     /// V15: two pieces of the tray may collide.
-    Collision,
+    Collision = 15,
     /// V16: the gripped pieces may not be free along the direction.
-    NotFree,
+    NotFree = 16,
     /// V17: the tray that `aside` names is in use.
-    TrayInUse,
+    TrayInUse = 17,
     /// V18: a piece may leave the bench.
-    OffBench,
+    OffBench = 18,
     /// V19: a call of no procedure, or of one that does not come later than its caller.
-    BadCall,
+    BadCall = 19,
     /// V20: the callee's entry frame is not met.
-    EntryMissed,
+    EntryMissed = 20,
     /// V21: the label's frame is not met.
-    FrameMissed,
+    FrameMissed = 21,
     /// V22: the exit frame is not met, or `ret` or `halt` stands in the wrong procedure.
-    ExitMissed,
+    ExitMissed = 22,
     /// V23: `halt` with a piece that is not apart.
-    NotApart,
+    NotApart = 23,
     /// V24: the cost that is left is below what is needed.
-    CostTooLow,
+    CostTooLow = 24,
     /// V25: there are too many symbols, guards or points.
-    StateTooLarge,
+    StateTooLarge = 25,
     /// V26: a form's numbers are too large.
-    FormTooLarge,
+    FormTooLarge = 26,
     /// V27: a frame is malformed, or the start does not meet main's.
-    BadFrame,
+    BadFrame = 27,
     /// V28: the budget is below main's cost.
-    BudgetTooLow,
+    BudgetTooLow = 28,
 }
 
 impl Rule {
@@ -73,36 +73,7 @@ impl Rule {
     pub fn number(self) -> u8
         ensures { result ≡ rule_number self }
     {
-        match self {
-            Rule::OtherAssembly => 1,
-            Rule::BadCode => 2,
-            Rule::BadLabel => 3,
-            Rule::MissingFrame => 4,
-            Rule::UnendedCode => 5,
-            Rule::MissingOperand => 6,
-            Rule::StackFull => 7,
-            Rule::EmptySlot => 8,
-            Rule::ParamWritten => 9,
-            Rule::BadJump => 10,
-            Rule::BadCount => 11,
-            Rule::NumberRange => 12,
-            Rule::GripOff => 13,
-            Rule::BadGroup => 14,
-            Rule::Collision => 15,
-            Rule::NotFree => 16,
-            Rule::TrayInUse => 17,
-            Rule::OffBench => 18,
-            Rule::BadCall => 19,
-            Rule::EntryMissed => 20,
-            Rule::FrameMissed => 21,
-            Rule::ExitMissed => 22,
-            Rule::NotApart => 23,
-            Rule::CostTooLow => 24,
-            Rule::StateTooLarge => 25,
-            Rule::FormTooLarge => 26,
-            Rule::BadFrame => 27,
-            Rule::BudgetTooLow => 28,
-        }
+        self as u8
     }
 }
 

@@ -26,6 +26,18 @@ pub struct PlanFrame {
 }
 
 impl PlanFrame {
+    /// The frame of a label.
+    pub fn of_label(procedure: usize, label: usize) -> PlanFrame {
+        let label = Some(label);
+        PlanFrame { procedure, label }
+    }
+
+    /// The exit frame of a procedure.
+    pub fn at_exit(procedure: usize) -> PlanFrame {
+        let label = None;
+        PlanFrame { procedure, label }
+    }
+
     /// Whether a part of the plan is a line of this frame.
     fn has(&self, part: PlanPart) -> bool {
         let (procedure, label) = match part {

@@ -63,39 +63,39 @@ pub enum Mode {
 #[derive(Clone, Copy, Debug, PartialEq, Eq, Error)]
 pub enum Trap {
     #[error("after the unit step two pieces of the tray would overlap")]
-    Collision,
+    Collision = 1,
     #[error("a piece of the group is not in the current tray, is apart, or isn't there")]
-    GripOff,
+    GripOff = 2,
     #[error("the grip isn't free along the direction of the way out")]
-    NotFree,
+    NotFree = 3,
     #[error("the grip is empty, or for a way out the whole tray")]
-    BadGroup,
+    BadGroup = 4,
     #[error("the tray that the group would go to has pieces")]
-    TrayInUse,
+    TrayInUse = 5,
     #[error("there are fewer operands than the instruction takes")]
-    MissingOperand,
+    MissingOperand = 6,
     #[error("the operands would be more than eight")]
-    StackFull,
+    StackFull = 7,
     #[error("the slot is empty")]
-    EmptySlot,
+    EmptySlot = 8,
     #[error("there is no such label")]
-    BadJump,
+    BadJump = 9,
     #[error("no instruction stands there")]
-    BadCode,
+    BadCode = 10,
     #[error("there is no such procedure, or its number is not above that of the running one")]
-    BadCall,
+    BadCall = 11,
     #[error("the count of a loop is below 0")]
-    BadCount,
+    BadCount = 12,
     #[error("the result lies outside -32,767 to 32,767")]
-    NumberRange,
+    NumberRange = 13,
     #[error("after the unit step a piece would lie outside -256 to 256 a coordinate")]
-    OffBench,
+    OffBench = 14,
     #[error("the run would end while a piece is not apart")]
-    NotApart,
+    NotApart = 15,
     #[error("`halt` stands outside main, or `ret` in it")]
-    Misplaced,
+    Misplaced = 16,
     #[error("the slot is a parameter of the procedure")]
-    ParamWritten,
+    ParamWritten = 17,
 }
 
 impl Trap {
@@ -103,25 +103,7 @@ impl Trap {
     pub fn number(self) -> u8
         ensures { result ≡ trap_number self }
     {
-        match self {
-            Trap::Collision => 1,
-            Trap::GripOff => 2,
-            Trap::NotFree => 3,
-            Trap::BadGroup => 4,
-            Trap::TrayInUse => 5,
-            Trap::MissingOperand => 6,
-            Trap::StackFull => 7,
-            Trap::EmptySlot => 8,
-            Trap::BadJump => 9,
-            Trap::BadCode => 10,
-            Trap::BadCall => 11,
-            Trap::BadCount => 12,
-            Trap::NumberRange => 13,
-            Trap::OffBench => 14,
-            Trap::NotApart => 15,
-            Trap::Misplaced => 16,
-            Trap::ParamWritten => 17,
-        }
+        self as u8
     }
 
     /// The trap's name, as sheets print it.

@@ -9,12 +9,12 @@ use crate::cell::Cell;
 /// One of the six directions along an axis.
 #[derive(Clone, Copy, Debug, PartialEq, Eq)]
 pub enum Direction {
-    PlusX,
-    MinusX,
-    PlusY,
-    MinusY,
-    PlusZ,
-    MinusZ,
+    PlusX = 0,
+    MinusX = 1,
+    PlusY = 2,
+    MinusY = 3,
+    PlusZ = 4,
+    MinusZ = 5,
 }
 
 impl Direction {
@@ -38,14 +38,7 @@ impl Direction {
     pub fn number(self) -> u8
         ensures { result ≡ number_of self }
     {
-        match self {
-            Direction::PlusX => 0,
-            Direction::MinusX => 1,
-            Direction::PlusY => 2,
-            Direction::MinusY => 3,
-            Direction::PlusZ => 4,
-            Direction::MinusZ => 5,
-        }
+        self as u8
     }
 
     /// One unit along the direction, from the origin.

@@ -49,7 +49,7 @@ impl Reasons<'_, '_> {
                 self.add_part(PlanPart::Plan);
                 let budget = self.plan.container.header().budget;
                 self.note(format_args!("the budget is {budget}, so below what main costs"));
-                self.add_frame_line(label_frame(0, 0), FramePart::Cost);
+                self.add_frame_line(PlanFrame::of_label(0, 0), FramePart::Cost);
             }
             Rule::BadFrame => self.add_malformed_frame(refusal),
             Rule::StateTooLarge => self.add_large_state(refusal),
@@ -151,18 +151,6 @@ fn fault_of_rule(rule: Rule) -> Option<&'static str> {
         Rule::FormTooLarge => Some(LARGE_FORM_NUMBER),
         _ => None,
     }
-}
-
-/// The frame of a label.
-fn label_frame(procedure: usize, label: usize) -> PlanFrame {
-    let label = Some(label);
-    PlanFrame { procedure, label }
-}
-
-/// The exit frame of a procedure.
-fn exit_frame(procedure: usize) -> PlanFrame {
-    let label = None;
-    PlanFrame { procedure, label }
 }
 
 /// Says why a plan is refused: the lines of its text that are at fault, each as

@@ -1,6 +1,6 @@
 //! Frames that are not met, or malformed.
 
-use super::{Reasons, Site, exit_frame, label_frame};
+use super::{Reasons, Site};
 use crate::pieces::Whereabouts;
 use burr_code::limits::{MOST_PIECES, SLOTS};
 use burr_code::{Instr, Labels, Placement, count_in_tray, is_in_set};
@@ -20,7 +20,7 @@ impl Reasons<'_, '_> {
             state.slots[v] = arguments.get(v).copied();
         }
         state.operands.clear();
-        self.add_differences(label_frame(callee, 0), &state, None);
+        self.add_differences(PlanFrame::of_label(callee, 0), &state, None);
     }
 
     /// What differs from the exit frame at a `ret`; or that a `halt` or a `ret` may not stand here.
@@ -29,7 +29,7 @@ impl Reasons<'_, '_> {
             (_, None) => self.note("main ends by `halt`"),
             (Instr::Ret, Some(_)) => {
                 self.add_point(site, &site.before);
-                self.add_differences(exit_frame(site.procedure), &site.before, None);
+                self.add_differences(PlanFrame::at_exit(site.procedure), &site.before, None);
             }
             _ => self.note("only main ends by `halt`; other procedures end by `ret`"),
         }
@@ -73,7 +73,7 @@ impl Reasons<'_, '_> {
 
     /// The same of a label where something differs, and whether it does.
     fn add_if_missed(&mut self, site: &Site, label: usize, after: &PointState) -> bool {
-        let is_missed = self.differs(label_frame(site.procedure, label), after);
+        let is_missed = self.differs(PlanFrame::of_label(site.procedure, label), after);
         if is_missed {
             self.add_arrival(site, label, after);
         }
@@ -85,7 +85,7 @@ impl Reasons<'_, '_> {
         let procedure = site.procedure;
         let name = Shown(self.lines.name_of(PlanPart::Label { procedure, label }));
         self.note(format_args!("what holds after it is not what the frame of {name} says"));
-        self.add_differences(label_frame(procedure, label), after, Some(after.cost));
+        self.add_differences(PlanFrame::of_label(procedure, label), after, Some(after.cost));
         if self.found.last == Some(FramePart::Cost) && site.label != Some(label) {
             self.add_last_part(site, FramePart::Cost);
             self.note("what is left is counted down from here");
@@ -102,7 +102,7 @@ impl Reasons<'_, '_> {
         let (procedure, pc) = (usize::from(refusal.proc), usize::from(refusal.pc));
         if let (0, Some(exit)) = (pc, self.plan.exit(procedure)) {
             let state = PointState::at_exit(&exit, &[]);
-            self.add_malformed_places(exit_frame(procedure), &state);
+            self.add_malformed_places(PlanFrame::at_exit(procedure), &state);
         }
         if self.report.is_empty() {
             self.add_malformed_label(procedure, pc);
@@ -120,13 +120,13 @@ impl Reasons<'_, '_> {
         if let Some(frame) = self.plan.frame(procedure, label) {
             self.add_malformed_slots(procedure, label, &frame);
             let state = PointState::at(&State::of(&frame), &[]);
-            self.add_malformed_places(label_frame(procedure, label), &state);
+            self.add_malformed_places(PlanFrame::of_label(procedure, label), &state);
         }
     }
 
     /// Says which slots and operands of a label's frame may not be there, or are missing.
     fn add_malformed_slots(&mut self, procedure: usize, label: usize, frame: &FrameRef<'_>) {
-        let plan_frame = label_frame(procedure, label);
+        let plan_frame = PlanFrame::of_label(procedure, label);
         let parameters = self.plan.parameters(procedure);
         for v in 0..SLOTS as u8 {
             let fault = match (v < parameters, frame.slot(v).is_some()) {
@@ -174,7 +174,7 @@ impl Reasons<'_, '_> {
         self.note("a run begins here, with all pieces at home in tray 0 and nothing gripped");
         let home = State::at_home(self.plan.assembly.piece_count());
         let start = PointState::at(&home, &[]);
-        self.add_differences(label_frame(procedure, label), &start, None);
+        self.add_differences(PlanFrame::of_label(procedure, label), &start, None);
     }
 }
 

@@ -1,6 +1,6 @@
 //! Operands, slots, numbers and costs; labels, procedures, and the end of a run.
 
-use super::{Reasons, Site, label_frame};
+use super::{Reasons, Site};
 use burr_code::Instr;
 use burr_code::limits::{MOST_NUMBER, MOST_PIECES, MOST_STATE_GUARDS, SLOTS};
 use burr_forms::limits::{MOST_POINTS, MOST_SYMBOLS};
@@ -92,7 +92,7 @@ impl Reasons<'_, '_> {
         self.note(format_args!("cost {left} is left, {needed} is needed"));
         self.add_point(site, &site.before);
         if let Instr::Call(callee) = instruction {
-            self.add_frame_line(label_frame(usize::from(*callee), 0), FramePart::Cost);
+            self.add_frame_line(PlanFrame::of_label(usize::from(*callee), 0), FramePart::Cost);
             self.note("a call takes 1 more than this");
         }
         self.add_last_part(site, FramePart::Cost);
@@ -142,7 +142,7 @@ impl Reasons<'_, '_> {
             "its slots have {points} points together, and {MOST_POINTS} are the most"
         ));
         for v in 0..SLOTS as u8 {
-            let frame = label_frame(procedure, label);
+            let frame = PlanFrame::of_label(procedure, label);
             if let Some(line) = self.lines.line_in(frame, FramePart::Slot(v)) {
                 self.report.add_line(self.plan.file, &line);
             }

@@ -1,6 +1,6 @@
 //! The place at which a rule is broken, with all that is around it.
 
-use super::{Reasons, exit_frame, label_frame};
+use super::Reasons;
 use arrayvec::ArrayVec;
 use burr_code::Instr;
 use burr_code::limits::{MOST_CODE, SLOTS};
@@ -80,7 +80,7 @@ impl Site {
                 let _ = self.symbols.try_push((Symbol::Slot(v), 0));
             }
         }
-        self.told = Some(label_frame(self.procedure, label));
+        self.told = Some(PlanFrame::of_label(self.procedure, label));
     }
 
     /// Adds what an instruction at this place brings.
@@ -104,7 +104,7 @@ impl Site {
             let _ = self.symbols.try_push((Symbol::Result(n), pc));
         }
         self.gripped_at = None;
-        self.told = Some(exit_frame(callee));
+        self.told = Some(PlanFrame::at_exit(callee));
     }
 
     /// What holds before the instruction, at the point; nothing where the verifier does not come to it.
@@ -151,7 +151,7 @@ impl Reasons<'_, '_> {
     /// Names the line of a part of the last label's frame, where there is a label.
     pub(super) fn add_last_part(&mut self, site: &Site, part: FramePart) {
         if let Some(label) = site.label {
-            self.add_frame_line(label_frame(site.procedure, label), part);
+            self.add_frame_line(PlanFrame::of_label(site.procedure, label), part);
         }
     }
 
