@@ -149,7 +149,12 @@ fn fault_of_rule(rule: Rule) -> Option<&'static str> {
         Rule::UnendedCode => Some("the code ends here, and this instruction goes on after it"),
         Rule::BadJump => Some("the procedure has no label of this number"),
         Rule::FormTooLarge => Some(LARGE_FORM_NUMBER),
-        _ => None,
+        Rule::OtherAssembly | Rule::BudgetTooLow | Rule::BadFrame | Rule::StateTooLarge => None,
+        Rule::BadLabel | Rule::BadCall | Rule::EntryMissed | Rule::FrameMissed => None,
+        Rule::MissingOperand | Rule::StackFull | Rule::EmptySlot | Rule::ParamWritten => None,
+        Rule::BadCount | Rule::NumberRange | Rule::CostTooLow | Rule::ExitMissed => None,
+        Rule::GripOff | Rule::BadGroup | Rule::Collision | Rule::NotFree => None,
+        Rule::TrayInUse | Rule::OffBench | Rule::NotApart => None,
     }
 }
 

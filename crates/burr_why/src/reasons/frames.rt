@@ -85,7 +85,11 @@ impl Reasons<'_, '_> {
         let procedure = site.procedure;
         let name = Shown(self.lines.name_of(PlanPart::Label { procedure, label }));
         self.note(format_args!("what holds after it is not what the frame of {name} says"));
-        self.add_differences(PlanFrame::of_label(procedure, label), after, Some(after.cost));
+        self.add_differences(
+            PlanFrame::of_label(procedure, label),
+            after,
+            Some(after.cost),
+        );
         if self.found.last == Some(FramePart::Cost) && site.label != Some(label) {
             self.add_last_part(site, FramePart::Cost);
             self.note("what is left is counted down from here");

@@ -5,7 +5,7 @@ use burr_code::Instr;
 use burr_code::limits::{MOST_NUMBER, MOST_PIECES, MOST_STATE_GUARDS, SLOTS};
 use burr_forms::limits::{MOST_POINTS, MOST_SYMBOLS};
 use burr_frames::State;
-use burr_lines::{FramePart, PlanPart, Shown};
+use burr_lines::{FramePart, PlanFrame, PlanPart, Shown};
 use burr_verify::{Refusal, point_of};
 
 impl Reasons<'_, '_> {
@@ -92,7 +92,10 @@ impl Reasons<'_, '_> {
         self.note(format_args!("cost {left} is left, {needed} is needed"));
         self.add_point(site, &site.before);
         if let Instr::Call(callee) = instruction {
-            self.add_frame_line(PlanFrame::of_label(usize::from(*callee), 0), FramePart::Cost);
+            self.add_frame_line(
+                PlanFrame::of_label(usize::from(*callee), 0),
+                FramePart::Cost,
+            );
             self.note("a call takes 1 more than this");
         }
         self.add_last_part(site, FramePart::Cost);
