@@ -1,8 +1,8 @@
 //! The instructions of a plan and their bytes, sets of pieces, and the limits of plans.
 //!
 //! # Promised
-//! - `fetch` is Some exactly where one of the seventeen instructions stands, with that instruction
-//!   and its length; else None.
+//! - `fetch` is Some exactly where an instruction stands, with that instruction and its length; else
+//!   None.
 //! - `encode` gives exactly an instruction's bytes. It asks for operands in range; it takes memory,
 //!   and answers `AllocError` where that is refused.
 //! - At most one instruction begins any bytes (`instructions_are_unique`), and each is read back
