@@ -78,12 +78,12 @@ values_raised : (k : ℕ) (forms : List Form) (point : Point) (d : ℤ) → k < 
 values_raised k [] point d l = refl
 values_raised k (f ∷ forms) point d l = ap (λ v. v ∷ values (slice_set point k (slice_index_or point k d +ℤ pos 1)) forms) (value_raised k f point d l) ∙ ap (λ r. (value point f +ℤ step_of k f) ∷ r) (values_raised k forms point d l)
 
-pub raised : (ranges : List (ℤ × ℤ)) (old : Point) (s : ℤ × ℤ) (d : ℤ) → length old ≡ length ranges → 0 < length ranges → int_lt (slice_index_or old (length ranges - 1) d) (slice_index_or ranges (length ranges - 1) s).1 ≡ true → IsRaised ranges old (slice_set old (length ranges - 1) (slice_index_or old (length ranges - 1) d +ℤ pos 1))
-raised ranges old s d e some less =
-    let no_range = drop_all (length ranges) ranges (omega arith) in
-    let none : following (drop (length ranges) ranges) (drop (length ranges) old) ≡ None = rw no_range refl in
-    let all : old ≡ take (length ranges) old ++ lows (drop (length ranges) ranges) = rw (no_range, take_all (length ranges) old (omega arith)) (sym (append-nil old)) in
-    record {
-      follows = advanced (length ranges) ranges old old s d e some (omega arith) none all less;
-      carries = λ forms. values_raised (length ranges - 1) forms old d (omega arith);
-    }
+-- a number goes up, after which the numbers are the lowest
+pub raised : (i : ℕ) (ranges : List (ℤ × ℤ)) (old now : Point) (s : ℤ × ℤ) (d : ℤ) → length old ≡ length ranges → 0 < i → i ≤ length old → following (drop i ranges) (drop i old) ≡ None → now ≡ take i old ++ lows (drop i ranges) → int_lt (slice_index_or now (i - 1) d) (slice_index_or ranges (i - 1) s).1 ≡ true → IsRaised ranges old (slice_set now (i - 1) (slice_index_or now (i - 1) d +ℤ pos 1)) (i - 1)
+raised i ranges old now s d e some within none is less = record {
+  follows = advanced i ranges old now s d e some within none is less;
+  carries = λ last forms.
+      let all : length ranges ≤ i = omega (arith, last) in
+      let same : now ≡ old = is ∙ ap (λ rs. take i old ++ lows rs) (drop_all i ranges all) ∙ append-nil (take i old) ∙ take_all i old (omega arith) in
+      rw same (values_raised (i - 1) forms old d (omega arith));
+}

@@ -1,8 +1,10 @@
 -- From one point of a region to the next.
-use Rattle.std.proofs.Common.{◌≡◌, ◌<◌, ◌≤◌, ◌-◌, List, [], ◌∷◌, length, Some, None, ap, sym, ◌∙◌, arith, inl, inr, subst}
+use Rattle.std.proofs.Common.{◌≡◌, ◌==◌, ℕ, ◌<◌, ◌≤◌, ◌-◌, List, [], ◌∷◌, ◌++◌, length, take, Some, None, ap, sym, ◌∙◌, arith, inl, inr, subst, true≢false}
 use Rattle.std.specs.Prelude.{ℤ, pos, Bool, true, false, IsTrue, ◌≤ℤ◌}
+use Rattle.std.specs.List.{refill}
+use Rattle.std.proofs.lemmas.List.{take_all, drop_all, append-nil}
 use Rattle.burr_forms.specs.Rules.Forms.{Form, Point, value, values, AllNear, AllSmallForms}
-use Rattle.burr_forms.specs.Rules.Points.{IsPointOf, InBox, AreRanges, GuardsHold}
+use Rattle.burr_forms.specs.Rules.Points.{IsPointOf, AreRanges, GuardsHold}
 use Rattle.burr_forms.specs.Views.Searching.{AllBounded, steps_of, sums, HoldsBefore, StandsAt, IsRaised, IsAfter, IsHere}
 use Rattle.burr_forms.specs.Views.Rising.{lows, following, count_after}
 use Rattle.burr_forms.specs.Rules.Conditions.{Region, Throughout, FailsFirstAt, NoneNegative, at_values}
@@ -68,11 +70,11 @@ at_few s P point few at = let e = length_inside s.ranges point at.inside in omeg
 pub at_many : (s : Region) (P : Point → Type 0) (point : Point) → StandsAt s P point → length point ≡ length s.ranges
 at_many s P point at = length_inside s.ranges point at.inside
 
--- a loop stands at a point, with the guards' values there, and the line of the forms' values
-pub record Carries (s : Region) (P : List ℤ → Type 0) (forms : List Form) (signs steps row : List ℤ) (is_kept : Bool) (point : Point) : Type 0 where
+-- a loop stands at a point, with values of the guards and of the forms that are carried to it
+pub record Carries (s : Region) (P : List ℤ → Type 0) (forms : List Form) (signs sign_steps row steps : List ℤ) (point : Point) : Type 0 where
   pub at : StandsAt s (at_values P forms) point
-  pub signs_are : signs ≡ values point s.guards
-  pub after : IsAfter steps forms point row is_kept
+  pub signs_after : IsAfter sign_steps s.guards point signs
+  pub after : IsAfter steps forms point row
 
 -- The loop that carries values
 
@@ -87,27 +89,29 @@ module _ (s : Region) (P : Point → Type 0) (signs : List ℤ) (point : Point) 
   pub next_at : (next : Point) → AreRanges s.ranges → (NoneNegative signs → P point) → following s.ranges point ≡ Some next → StandsAt s P next
   next_at next r passes e = goes_on s P r point next at (holds_here passes) e
 
-  pub next_near : (next : Point) → AreRanges s.ranges → (NoneNegative signs → P point) → following s.ranges point ≡ Some next → AllNear next
-  next_near next r passes e = at_near s P next r (next_at next r passes e)
-
-  pub next_few : (next : Point) → AreRanges s.ranges → length s.ranges ≤ 8 → (NoneNegative signs → P point) → following s.ranges point ≡ Some next → length next ≤ 8
-  next_few next r few passes e = at_few s P next few (next_at next r passes e)
-
-  -- guards carried to a raised point
-  pub carried_bounded : (next : Point) (steps : List ℤ) → AreRanges s.ranges → length s.ranges ≤ 8 → AllSmallForms s.guards → (NoneNegative signs → P point) → IsRaised s.ranges point next → steps ≡ steps_of (length s.ranges - 1) s.guards → AllBounded (sums signs steps)
-  carried_bounded next steps r few small passes up steps_are =
-      let are : sums signs steps ≡ values next s.guards = rw (signs_are, steps_are) (sym (up.carries s.guards)) in
-      subst AllBounded (sym are) (values_bounded next s.guards small (next_near next r passes up.follows) (next_few next r few passes up.follows))
-
-  pub carried_on : (next : Point) (steps signs' : List ℤ) → IsRaised s.ranges point next → steps ≡ steps_of (length s.ranges - 1) s.guards → signs' ≡ sums signs steps → signs' ≡ values next s.guards
-  carried_on next steps signs' up steps_are are = are ∙ ap (λ xs. sums xs steps) signs_are ∙ ap (sums (values point s.guards)) steps_are ∙ sym (up.carries s.guards)
-
   pub ended : AreRanges s.ranges → (NoneNegative signs → P point) → following s.ranges point ≡ None → Throughout s P
   ended r passes e = ends s P r point at (holds_here passes) e
 
+-- a slice of the point is put back into it
+pub put_back : (s : Region) (P : Point → Type 0) (given point next : Point) (symbol : ℕ) → AreRanges s.ranges → StandsAt s P point → given ≡ point → IsRaised s.ranges given next symbol → IsRaised s.ranges point (refill (length point) point next) symbol
+put_back s P given point next symbol r at same up =
+    let here : IsRaised s.ranges point next symbol = subst (λ (p : Point). IsRaised s.ranges p next symbol) same up in
+    let n : IsNext s.ranges point next = follows_next s.ranges point next r at.inside here.follows in
+    let as_long : length next ≡ length point = length_inside s.ranges next n.inside ∙ sym (length_inside s.ranges point at.inside) in
+    let whole : refill (length point) point next ≡ next =
+    ap (λ (rest : Point). take (length point) (next ++ rest)) (drop_all (length next) point (omega arith)) ∙ ap (take (length point)) (append-nil next) ∙ take_all (length point) next (omega arith) in
+    subst (λ (p : Point). IsRaised s.ranges point p symbol) (sym whole) here
+
 -- what is kept here is after a raised point
-pub now_after : (ranges : List (ℤ × ℤ)) (steps : List ℤ) (forms : List Form) (point next : Point) (row : List ℤ) (is_kept : Bool) → IsRaised ranges point next → steps ≡ steps_of (length ranges - 1) forms → IsHere forms point row is_kept → IsAfter steps forms next row is_kept
-now_after ranges steps forms point next row is_kept up steps_are here k = up.carries forms ∙ ap (sums (values point forms)) (sym steps_are) ∙ ap (λ xs. sums xs steps) (sym (here k))
+pub now_after : (ranges : List (ℤ × ℤ)) (symbol : ℕ) (steps : List ℤ) (forms : List Form) (point next : Point) (row : List ℤ) → IsRaised ranges point next symbol → symbol ≡ length ranges - 1 → steps ≡ steps_of (length ranges - 1) forms → IsHere forms point row → IsAfter steps forms next row
+now_after ranges symbol steps forms point next row up last steps_are (inl none) = inl none
+now_after ranges symbol steps forms point next row up last steps_are (inr here) =
+    inr (up.carries last forms ∙ ap (λ k. sums (values point forms) (steps_of k forms)) last ∙ ap (sums (values point forms)) (sym steps_are) ∙ ap (λ xs. sums xs steps) (sym here))
+
+-- what is kept is carried on
+pub kept_after : (steps : List ℤ) (forms : List Form) (point : Point) (row : List ℤ) → IsAfter steps forms point row → false ≡ (length row == 0) → values point forms ≡ sums row steps
+kept_after steps forms point row (inl none) some = absurd (true≢false (ap (λ (xs : List ℤ). length xs == 0) (sym none) ∙ sym some))
+kept_after steps forms point row (inr are) some = are
 
 pub after_bounded : (steps : List ℤ) (forms : List Form) (point : Point) (row : List ℤ) → values point forms ≡ sums row steps → AllSmallForms forms → AllNear point → length point ≤ 8 → AllBounded (sums row steps)
 after_bounded steps forms point row are small near few = subst AllBounded are (values_bounded point forms small near few)
@@ -116,9 +120,6 @@ pub after_as_many : (steps : List ℤ) (forms : List Form) (point : Point) (row 
 after_as_many steps forms point row are places = sym (length-sums row steps) ∙ ap (λ xs. length xs) (sym are) ∙ length-values point forms ∙ sym places
 
 -- The start
-
-pub near_start : (ranges : List (ℤ × ℤ)) (point : Point) → AreRanges ranges → point ≡ lows ranges → AllNear point
-near_start ranges point r is = near_inside ranges point r (subst (InBox ranges) (sym is) (lows_inside ranges r))
 
 pub stands_first : (s : Region) (P : Point → Type 0) (point : Point) → AreRanges s.ranges → point ≡ lows s.ranges → StandsAt s P point
 stands_first s P point r is = subst (StandsAt s P) (sym is) (starts s P r)

@@ -7,8 +7,8 @@ ghost use Rattle.burr_forms.specs.Rules.Points.{AreRanges};
 
 use crate::form::Form;
 use crate::limits::MOST_SYMBOLS;
-use crate::points::{FormValues, Point};
-use crate::searching::{Sweep, bring, first_refused};
+use crate::points::{FormValues, Point, bring};
+use crate::searching::first_refused;
 use arrayvec::ArrayVec;
 
 /// A condition on the values that some forms have at a point.
@@ -112,13 +112,15 @@ impl<'a, C: Condition> Asking for Plain<'a, C> {
 }
 
 /// Whether the condition holds at a point, if no guard's value is negative there. Where one is, the
-/// values of the condition's forms are not looked at.
+/// values of the condition's forms are not looked at, and none are kept in `row`. Where the guards
+/// hold on a line of points, which differ in their last number alone, they hold without a gap, so
+/// that a line is evaluated once at most.
 pub fn passes<C: Asking>(
     condition: &mut C,
     signs: &FormValues,
     steps: &FormValues,
     point: &Point,
-    line: &mut Sweep,
+    row: &mut FormValues,
 ) -> bool
     requires many { length (C.wanted (C.subject condition.old)) ≤ 120 }
     requires places { length steps.now.items ≡ length (C.wanted (C.subject condition.old)) }
@@ -130,7 +132,7 @@ pub fn passes<C: Asking>(
         point.now.items }
     requires room { C.count condition.old + C.most (C.subject condition.old) ≤ 2 ^ 61 }
     requires after { IsAfter steps.now.items (C.wanted (C.subject condition.old)) point.now.items
-        line.old.row.items line.old.is_kept }
+        row.old.items }
     ensures same { C.subject condition.new ≡ C.subject condition.old }
     ensures told { MatchBool result
         (NoneNegative signs.now.items
@@ -142,7 +144,7 @@ pub fn passes<C: Asking>(
     ensures kept { MatchBool result (Unit {0}) (C.Kept condition.new (C.subject condition.old)
         (values point.now.items (C.wanted (C.subject condition.old)))) }
     ensures here { IsHere (C.wanted (C.subject condition.old)) point.now.items
-        line.new.row.items line.new.is_kept }
+        row.new.items }
     ensures counted { (n : ℕ) × (n ≤ C.most (C.subject condition.old))
         × LooksUnder signs.now.items
         (looks_at_values (C.Counts (C.subject condition.old)) (C.wanted (C.subject condition.old))
@@ -150,11 +152,11 @@ pub fn passes<C: Asking>(
         × (C.count condition.new ≡ C.count condition.old + n) }
 {
     if !none_negative(signs.as_slice()) {
-        line.is_kept = false;
+        row.clear();
         return true;
     }
-    bring(line, condition.wanted_forms(), steps, point);
-    condition.ask(line.row.as_slice())
+    bring(row, condition.wanted_forms(), steps, point);
+    condition.ask(row.as_slice())
 }
 
 /// Whether no number is negative.

@@ -3,7 +3,7 @@ ghost use Rattle.std.specs.Iterator.{YieldsFirst, item_count};
 ghost use Rattle.burr_forms.specs.Rules.Points.{points_of, guards_hold, AreGuards, AreRanges, IsRange, IsBox, padded};
 ghost use Rattle.burr_forms.specs.Rules.Forms.{values, AllSmallForms, AllNear};
 ghost use Rattle.burr_forms.specs.Views.Rising.{following, lows};
-ghost use Rattle.burr_forms.specs.Views.Searching.{steps_of, AllBounded, sums, IsRaised, IsAtEnd};
+ghost use Rattle.burr_forms.specs.Views.Searching.{steps_of, AllBounded, sums, IsRaised, IsAfter};
 
 use crate::form::{Form, is_small};
 use crate::limits::{MOST_BOX_GUARDS, MOST_FORMS, MOST_SYMBOL_VALUE, MOST_SYMBOLS};
@@ -57,7 +57,7 @@ impl<'a> Iterator for Points<'a> {
     fn next(&mut self) -> Option<[i32; MOST_SYMBOLS]> {
         while !self.ended {
             let point = self.point;
-            self.ended = !advance(self.ranges.ranges(), &mut self.point);
+            self.ended = advance(self.ranges.ranges(), &mut self.point).is_none();
             if self.guards.hold(&point) {
                 return Some(point);
             }
@@ -85,29 +85,6 @@ pub fn lowest_point(ranges: &[(i32, i32)]) -> Point
     point
 }
 
-/// Goes on to the following point of a box, and tells whether there is one.
-pub fn advance_point(ranges: &[(i32, i32)], point: &mut Point) -> bool
-    requires places { length point.old.items ≡ length ranges.now }
-    ensures { MatchBool result (following ranges.now point.old.items ≡ Some point.new.items)
-        (following ranges.now point.old.items ≡ None) }
-{
-    advance(ranges, point.as_mut_slice())
-}
-
-/// Puts the value of each form at a point in the place of a row.
-pub fn evaluate(forms: &[Form], point: &Point, row: &mut FormValues)
-    requires many { length forms.now ≤ 120 }
-    requires small { AllSmallForms forms.now }
-    requires near { AllNear point.now.items }
-    ensures { row.new.items ≡ values point.now.items forms.now }
-{
-    let numbers = point.as_slice();
-    row.clear();
-    for form in forms {
-        row.push(form.value_at(numbers));
-    }
-}
-
 /// How far the value of each form goes as a symbol goes one up.
 pub fn steps_along(forms: &[Form], symbol: usize) -> FormValues
     requires many { length forms.now ≤ 120 }
@@ -132,11 +109,12 @@ fn lowest(ranges: &[(i32, i32); MOST_SYMBOLS]) -> [i32; MOST_SYMBOLS]
     point
 }
 
-/// Goes on to the following point of a box, and tells whether there is one.
-fn advance(ranges: &[(i32, i32)], point: &mut [i32]) -> bool
+/// Goes on to the following point of a box, and tells the symbol whose number goes up. Where there
+/// is no such point, the numbers are those of the lowest one.
+pub fn advance(ranges: &[(i32, i32)], point: &mut [i32]) -> Option<usize>
     requires places { length point.old ≡ length ranges.now }
-    ensures { MatchBool result (following ranges.now point.old ≡ Some point.new)
-        (following ranges.now point.old ≡ None) }
+    ensures { MatchOption result (following ranges.now point.old ≡ None)
+        (IsRaised ranges.now point.old point.new) }
 {
     let mut symbol = ranges.len();
     while symbol > 0 {
@@ -144,41 +122,35 @@ fn advance(ranges: &[(i32, i32)], point: &mut [i32]) -> bool
         let (low, high) = ranges[symbol];
         if point[symbol] < high {
             point[symbol] += 1;
-            return true;
+            return Some(symbol);
         }
         point[symbol] = low;
     }
-    false
+    None
 }
 
-/// Raises the last number of a point, where it is below the end of its range.
-pub fn raise_last(ranges: &[(i32, i32)], point: &mut Point) -> bool
-    requires places { length point.old.items ≡ length ranges.now }
-    ensures { MatchBool result (IsRaised ranges.now point.old.items point.new.items)
-        ((point.new.items ≡ point.old.items) × IsAtEnd ranges.now point.old.items) }
+/// Brings the values of forms to a point: they are carried on from the point before it, with these
+/// steps, or evaluated where none are kept.
+pub fn bring(row: &mut FormValues, forms: &[Form], steps: &FormValues, point: &Point)
+    requires many { length forms.now ≤ 120 }
+    requires places { length steps.now.items ≡ length forms.now }
+    requires small { AllSmallForms forms.now }
+    requires near { AllNear point.now.items }
+    requires few { length point.now.items ≤ 8 }
+    requires after { IsAfter steps.now.items forms.now point.now.items row.old.items }
+    ensures { row.new.items ≡ values point.now.items forms.now }
 {
-    raise_last_of(ranges, point.as_mut_slice())
+    if !row.is_empty() {
+        carry(row.as_mut_slice(), steps.as_slice());
+        return;
+    }
+    for form in forms {
+        row.push(form.value_at(point.as_slice()));
+    }
 }
 
-fn raise_last_of(ranges: &[(i32, i32)], point: &mut [i32]) -> bool
-    requires places { length point.old ≡ length ranges.now }
-    ensures { MatchBool result (IsRaised ranges.now point.old point.new)
-        ((point.new ≡ point.old) × IsAtEnd ranges.now point.old) }
-{
-    let count = ranges.len();
-    if count == 0 {
-        return false;
-    }
-    let last = count - 1;
-    if point[last] < ranges[last].1 {
-        point[last] += 1;
-        return true;
-    }
-    false
-}
-
-/// Adds the steps to the values.
-fn add(row: &mut [i64], steps: &[i64])
+/// Carries the values of forms on, one step each.
+fn carry(row: &mut [i64], steps: &[i64])
     requires places { length row.old ≡ length steps.now }
     requires bounded { AllBounded (sums row.old steps.now) }
     ensures { row.new ≡ sums row.old steps.now }
@@ -186,15 +158,6 @@ fn add(row: &mut [i64], steps: &[i64])
     for place in 0..steps.len() {
         row[place] += steps[place];
     }
-}
-
-/// Carries the values of forms on, one step each.
-pub fn carry(row: &mut FormValues, steps: &FormValues)
-    requires places { length row.old.items ≡ length steps.now.items }
-    requires bounded { AllBounded (sums row.old.items steps.now.items) }
-    ensures { row.new.items ≡ sums row.old.items steps.now.items }
-{
-    add(row.as_mut_slice(), steps.as_slice());
 }
 
 /// At most eight forms; none of them may be negative.
@@ -220,14 +183,11 @@ impl Guards {
         ensures { MatchOption result (¬ AreGuards forms.now) (λ given.
             AreGuards forms.now × (given ≡ forms.now)) }
     {
-        if MOST_BOX_GUARDS < forms.len() || !forms.iter().all(|form| is_small(form)) {
+        if !forms.iter().all(|form| is_small(form)) {
             return None;
         }
-        let mut guards = ArrayVec::new();
-        for form in forms {
-            guards.push(*form);
-        }
-        Some(Guards { forms: guards })
+        let forms = ArrayVec::try_from(forms).ok()?;
+        Some(Guards { forms })
     }
 
     /// Whether no guard is negative at a point. The caller's condition: each number of the point

@@ -1,17 +1,15 @@
-ghost use Rattle.std.specs.Prelude.{◌≡◌, ◌↔◌, ◌≤◌, ◌+◌, ◌*◌, ◌^◌, IsTrue, length, MatchOption, true};
+ghost use Rattle.std.specs.Prelude.{◌≡◌, ◌↔◌, ◌≤◌, ◌+◌, ◌*◌, ◌^◌, IsTrue, length, MatchOption};
 ghost use Rattle.burr_forms.specs.Views.Counting.{Counted, looks_at_values};
 ghost use Rattle.burr_forms.specs.Views.Rising.{count_in};
-ghost use Rattle.burr_forms.specs.Rules.Forms.{AllSmallForms, IsSmallForm, values, AllNear};
+ghost use Rattle.burr_forms.specs.Rules.Forms.{AllSmallForms, IsSmallForm, values};
 ghost use Rattle.burr_forms.specs.Rules.Points.{AreRanges};
 ghost use Rattle.burr_forms.specs.Rules.Conditions.{region, at_values, Throughout, FailsFirstAt};
-ghost use Rattle.burr_forms.specs.Views.Searching.{HoldAlike, IsAfter, IsNegativeIn};
+ghost use Rattle.burr_forms.specs.Views.Searching.{HoldAlike, IsNegativeIn};
 
 use crate::condition::{Asking, passes};
 use crate::form::Form;
 use crate::limits::MOST_BOX_GUARDS;
-use crate::points::{
-    FormValues, Point, advance_point, carry, evaluate, lowest_point, raise_last, steps_along,
-};
+use crate::points::{Point, advance, bring, lowest_point, steps_along};
 use arrayvec::ArrayVec;
 
 /// The first failing point of a box, as `first_failing` gives it, by a look at each point. Along
@@ -53,24 +51,16 @@ pub fn first_refused<C: Asking>(
     let steps = steps_along(condition.wanted_forms(), last);
     let mut point = lowest_point(ranges);
     let mut signs = ArrayVec::new();
-    evaluate(cutting, &point, &mut signs);
-    let mut line = Sweep {
-        row: ArrayVec::new(),
-        is_kept: false,
-    };
+    let mut row = ArrayVec::new();
     loop {
-        if !passes(condition, &signs, &steps, &point, &mut line) {
+        bring(&mut signs, cutting, &sign_steps, &point);
+        if !passes(condition, &signs, &steps, &point, &mut row) {
             return Some(point);
         }
-        if raise_last(ranges, &mut point) {
-            carry(&mut signs, &sign_steps);
-            continue;
+        if advance(ranges, point.as_mut_slice())? != last {
+            signs.clear();
+            row.clear();
         }
-        if !advance_point(ranges, &mut point) {
-            return None;
-        }
-        evaluate(cutting, &point, &mut signs);
-        line.is_kept = false;
     }
 }
 
@@ -108,35 +98,4 @@ fn is_negative_in(ranges: &[(i32, i32)], form: &Form) -> bool
     ensures { IsTrue result ↔ IsNegativeIn ranges.now form.now }
 {
     form.least_in(ranges) < 0
-}
-
-/// Values of forms on a line of points, which differ in their last number alone.
-#[derive(Drop)]
-pub struct Sweep {
-    /// The values at the point that was looked at last, where they are kept.
-    pub row: FormValues,
-    /// Not on a new line, nor after a point at which a guard is negative. Where the guards hold on
-    /// a line they hold without a gap, so that it is evaluated once at most.
-    pub is_kept: bool,
-}
-
-/// Brings the values of forms to a point: they are carried on from the point before it, with these
-/// steps, or evaluated.
-pub fn bring(line: &mut Sweep, forms: &[Form], steps: &FormValues, point: &Point)
-    requires many { length forms.now ≤ 120 }
-    requires places { length steps.now.items ≡ length forms.now }
-    requires small { AllSmallForms forms.now }
-    requires near { AllNear point.now.items }
-    requires few { length point.now.items ≤ 8 }
-    requires after { IsAfter steps.now.items forms.now point.now.items
-        line.old.row.items line.old.is_kept }
-    ensures values { line.new.row.items ≡ values point.now.items forms.now }
-    ensures kept { line.new.is_kept ≡ true }
-{
-    if line.is_kept {
-        carry(&mut line.row, steps);
-        return;
-    }
-    evaluate(forms, point, &mut line.row);
-    line.is_kept = true;
 }

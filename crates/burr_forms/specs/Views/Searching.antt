@@ -1,5 +1,5 @@
 -- A search over the points of a region, which carries values along the last symbol.
-use Rattle.std.specs.Prelude.{◌≡◌, ◌⊎◌, ◌↔◌, ◌^◌, ◌≤◌, ◌-◌, ℕ, suc, ℤ, pos, ◌+ℤ◌, ◌≤ℤ◌, ◌<ℤ◌, Bool, IsTrue, List, [], ◌∷◌, map, All, length, Some, slice_index_or}
+use Rattle.std.specs.Prelude.{◌≡◌, ◌⊎◌, ◌↔◌, ◌^◌, ◌≤◌, ◌-◌, ℕ, suc, ℤ, pos, ◌+ℤ◌, ◌<ℤ◌, List, [], ◌∷◌, map, All, length, Some, slice_index_or}
 use Rattle.std.specs.Int.RustNames.{unsigned_abs}
 use Rattle.burr_forms.specs.Rules.Forms.{Form, Point, value, values}
 use Rattle.burr_forms.specs.Rules.Points.{InBox, GuardsHold, IsPointOf, Precedes}
@@ -26,23 +26,12 @@ sums [] steps = []
 sums (v ∷ numbers) [] = v ∷ numbers
 sums (v ∷ numbers) (s ∷ steps) = (v +ℤ s) ∷ sums numbers steps
 
-abbrev pub last_number : Point → ℤ
-last_number point = slice_index_or point (length point - 1) (pos 0)
-
--- where the last range ends
-abbrev pub last_end : List (ℤ × ℤ) → ℤ
-last_end ranges = (slice_index_or ranges (length ranges - 1) (pos 0, pos 0)).1
-
--- there is no range, or the last number is not below the end of its range
-abbrev pub IsAtEnd : List (ℤ × ℤ) → Point → Type 0
-IsAtEnd ranges point = (length ranges ≡ 0) ⊎ (last_end ranges ≤ℤ last_number point)
-
--- the last number of a point goes one up: the point that follows, where each form is its own step
--- further
-pub record IsRaised (ranges : List (ℤ × ℤ)) (old new : Point) : Type 0 where
+-- a point goes on to the one that follows, where this symbol goes up; if it is the last, each form is its
+-- own step further
+pub record IsRaised (ranges : List (ℤ × ℤ)) (old new : Point) (symbol : ℕ) : Type 0 where
   pub follows : following ranges old ≡ Some new
-  pub carries : (forms : List Form)
-      → values new forms ≡ sums (values old forms) (steps_of (length ranges - 1) forms)
+  pub carries : symbol ≡ length ranges - 1 → (forms : List Form)
+      → values new forms ≡ sums (values old forms) (steps_of symbol forms)
 
 -- the condition holds at each point before this one
 abbrev pub HoldsBefore : Region → (Point → Type 0) → Point → Type 0
@@ -53,14 +42,13 @@ pub record StandsAt (s : Region) (P : Point → Type 0) (point : Point) : Type 0
   pub inside : InBox s.ranges point
   pub before : HoldsBefore s P point
 
--- what is kept are the values at the point before, one step along the last symbol
-abbrev pub IsAfter : List ℤ → List Form → Point → List ℤ → Bool → Type 0
-IsAfter steps forms point numbers is_kept =
-    IsTrue is_kept → values point forms ≡ sums numbers steps
+-- what is kept, if anything, are the values at the point before, one step along the last symbol
+abbrev pub IsAfter : List ℤ → List Form → Point → List ℤ → Type 0
+IsAfter steps forms point row = (row ≡ []) ⊎ (values point forms ≡ sums row steps)
 
--- what is kept are the values at this point
-abbrev pub IsHere : List Form → Point → List ℤ → Bool → Type 0
-IsHere forms point numbers is_kept = IsTrue is_kept → numbers ≡ values point forms
+-- what is kept, if anything, are the values at this point
+abbrev pub IsHere : List Form → Point → List ℤ → Type 0
+IsHere forms point row = (row ≡ []) ⊎ (row ≡ values point forms)
 
 -- the form is negative at a point of the box, guards not counted
 abbrev pub IsNegativeIn : List (ℤ × ℤ) → Form → Type 0

@@ -1,6 +1,6 @@
 use Rattle.std.proofs.Common.{rules, FitsSigned, w64, slice_index_or, pos, to_z-of_z}
 use Rattle.burr_forms.proofs.Carrying.{sum_fits, sum_next}
-use Rattle.burr_forms.proofs.points.add.Goals as goal
+use Rattle.burr_forms.proofs.points.carry.Goals as goal
 
 pub overflow_add-row : goal.overflow_add-row
 overflow_add-row c =
