@@ -1,9 +1,9 @@
 -- The words that a piece's line is cut into.
-use Rattle.std.proofs.Common.{◌≡◌, ◌↔◌, ℕ, ◌<◌, List, [], ◌∷◌, ◌++◌, length, get_or, Contains, Bool, true, false, IsTrue, MatchOption, refl, sym, ap, subst, ◌∙◌, arith}
+use Rattle.std.proofs.Common.{◌≡◌, ◌↔◌, ℕ, ◌<◌, List, [], ◌∷◌, ◌++◌, length, codes, drop, get_or, Contains, Bool, true, false, IsTrue, MatchOption, refl, sym, ap, subst, ◌∙◌, arith}
 use Rattle.std.specs.Bool.{then_some}
 use Rattle.burr_assembly.specs.declared.text.line.PieceLine.{PieceLine}
 use Rattle.burr_assembly.specs.Views.LineViews.{words_of}
-use Rattle.burr_assembly.specs.Rules.Lines.{PieceWords, IsPieceWords, piece_words_text}
+use Rattle.burr_assembly.specs.Rules.Lines.{PieceWords, IsPieceWords, IsLine, PieceLine as PieceForm, piece_words_text}
 use Rattle.burr_text.specs.Words.{IsCutAt}
 use Rattle.burr_text.proofs.Common.Cuts.{Lacks, cut, lacks, lacks_blank, contains_cut}
 use Rattle.burr_assembly.proofs.Numbers.{number_lacks}
@@ -54,8 +54,8 @@ abbrev word_at : ℕ → List (List ℕ) → List ℕ
 word_at k words = get_or words k []
 
 -- where no blank is left after fewer than five words, the bytes are not those of a piece's line
-pub too_few_words : (found : List (List ℕ)) (bytes rest : List ℕ) → AreCut found bytes rest → length found < 5 → ¬ Contains rest 32 → (w : PieceWords) → IsPieceWords w → ¬ (bytes ≡ piece_words_text w)
-too_few_words found bytes rest cuts few none w p e = none (blank_is_left found (first_words w) bytes rest w.z cuts (no_blanks w p) e (omega arith))
+pub too_few_words : (found : List (List ℕ)) (line bytes rest : List ℕ) → bytes ≡ drop 6 line → AreCut found bytes rest → length found < 5 → ¬ Contains rest 32 → (w : PieceWords) → ¬ IsLine line (PieceForm w)
+too_few_words found line bytes rest is cuts few none w (p, e) = none (blank_is_left found (first_words w) bytes rest w.z cuts (no_blanks w p) (is ∙ ap (drop 6) e) (omega arith))
 
 -- words that were cut off are those of each piece's line with these bytes
 same_words : (v : PieceWords) (bytes : List ℕ) → AreCut (first_words v) bytes v.z → (w : PieceWords) → IsPieceWords w → bytes ≡ piece_words_text w → v ≡ w
@@ -64,17 +64,13 @@ same_words v bytes cuts w p e =
     let at : (k : ℕ) → word_at k (first_words v) ≡ word_at k (first_words w) = λ k. ap (word_at k) same.0 in
     λ i. record { name = at 0 i; shape = at 1 i; orientation = at 2 i; x = at 3 i; y = at 4 i; z = same.1 i }
 
--- so only they can be words of a piece's line
-only_these : (v : PieceWords) (bytes : List ℕ) → AreCut (first_words v) bytes v.z → ¬ IsPieceWords v → (w : PieceWords) → IsPieceWords w → ¬ (bytes ≡ piece_words_text w)
-only_these v bytes cuts bad w p e = bad (subst IsPieceWords (sym (same_words v bytes cuts w p e)) p)
-
 -- the bytes are what was cut off in a row
 bytes_in_row : (found : List (List ℕ)) (bytes rest : List ℕ) → AreCut found bytes rest → bytes ≡ in_row found rest
 bytes_in_row [] bytes rest cuts = sym cuts
 bytes_in_row (front ∷ found) bytes rest cuts = cuts.1.parts ∙ ap (λ (after : List ℕ). front ++ 32 ∷ after) (bytes_in_row found cuts.0 rest cuts.2)
 
 -- a line of the words that were cut off is given just where they are right
-pub right_line : (bytes : List ℕ) (line : PieceLine) (is_right : Bool) → AreCut (first_words (words_of line)) bytes line.z.now → IsTrue is_right ↔ IsPieceWords (words_of line)
-    → MatchOption (then_some is_right line) ((w : PieceWords) → IsPieceWords w → ¬ (bytes ≡ piece_words_text w)) (λ line. IsPieceWords (words_of line) × (bytes ≡ piece_words_text (words_of line)))
-right_line bytes line true cuts h = (h.0 refl, bytes_in_row (first_words (words_of line)) bytes line.z.now cuts)
-right_line bytes line false cuts h = only_these (words_of line) bytes cuts (λ p. let no : false ≡ true = h.1 p in cc)
+pub right_line : (line bytes : List ℕ) (words : PieceLine) (is_right : Bool) → line ≡ codes "piece " ++ bytes → AreCut (first_words (words_of words)) bytes words.z.now → IsTrue is_right ↔ IsPieceWords (words_of words)
+    → MatchOption (then_some is_right words) ((w : PieceWords) → ¬ IsLine line (PieceForm w)) (λ words. IsLine line (PieceForm (words_of words)))
+right_line line bytes words true is cuts h = (h.0 refl, is ∙ ap (λ (b : List ℕ). codes "piece " ++ b) (bytes_in_row (first_words (words_of words)) bytes words.z.now cuts))
+right_line line bytes words false is cuts h = λ w right. let no : false ≡ true = h.1 (subst IsPieceWords (sym (same_words (words_of words) bytes cuts w right.0 (ap (drop 6) (sym is ∙ right.1)))) right.0) in cc

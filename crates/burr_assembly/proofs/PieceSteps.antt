@@ -2,14 +2,14 @@
 use Rattle.std.proofs.Common.{◌≡◌, ◌<◌, ◌++◌, ◌∷◌, [], ℕ, List, length, refl, sym, ◌∙◌, subst, inl, inr, Ok, Err, Some, None}
 use Rattle.std.specs.List.{Any}
 use Rattle.burr_voxels.specs.declared.cell.Cell.{Cell}
-use Rattle.burr_assembly.specs.declared.fault.AssemblyFault.TheVariants.{A4, A5, A6, A8}
+use Rattle.burr_assembly.specs.declared.fault.AssemblyFault.TheVariants.{A2, A4, A5, A6, A8}
 use Rattle.burr_text.specs.Names.{IsName}
 use Rattle.burr_assembly.specs.Rules.Text.{Drawing, Turn, Piece, HasCells, IsTurn, IsShapeName, IsPositionText, turn_name}
 use Rattle.burr_assembly.specs.Views.HomedPieces.{HomedPiece, pieces_of, AreAtHome, IsFirstMeeting}
 use Rattle.burr_assembly.specs.Rules.Lines.{PieceWords}
 use Rattle.burr_assembly.specs.Rules.Faults.{PieceRule, Pieces}
 use Rattle.burr_assembly.specs.Views.Drawings.{AreDistinct}
-use Rattle.burr_assembly.proofs.Sharing.{length-pieces_of, kept_name, first_shares, none_shares}
+use Rattle.burr_assembly.proofs.Sharing.{length-pieces_of, kept_name, name_of_kept, first_shares, none_shares}
 
 -- the piece may come, and its name is right
 pub record IsNamed (placed : List HomedPiece) (w : PieceWords) : Type 0 where
@@ -31,6 +31,11 @@ piece_of w t position = record { name = w.name; shape = w.shape; turn = t; posit
 -- no room is lost by leaving the cells out
 room : (placed : List HomedPiece) (w : PieceWords) → IsNamed placed w → length (pieces_of placed) < 32
 room placed w named = subst (λ (n : ℕ). n < 32) (sym (length-pieces_of placed)) named.room
+
+pub wrong_name : (n : ℕ) (name : List ℕ) (shapes : List Drawing) (placed : List HomedPiece) (w : PieceWords)
+    → length placed < 32 → ¬ (IsName w.name × (¬ Any (λ (p : HomedPiece). p.piece.name ≡ w.name) placed)) → PieceRule n name shapes (pieces_of placed) w (Err (A2 n))
+wrong_name n name shapes placed w some wrong =
+    inr (subst (λ (m : ℕ). m < 32) (sym (length-pieces_of placed)) some, inl (λ right. wrong (right.0, λ taken. right.1 (name_of_kept placed w.name taken)), refl))
 
 pub unknown_shape : (n : ℕ) (name : List ℕ) (shapes : List Drawing) (placed : List HomedPiece) (w : PieceWords)
     → IsNamed placed w → ¬ IsShapeName shapes w.shape → PieceRule n name shapes (pieces_of placed) w (Err (A6 n))

@@ -33,6 +33,11 @@ kept_name placed name (k, x, inside, at, is) =
     let same : kept.piece ≡ x = sym (piece_at placed k x d within) ∙ at in
     (k, kept, within, get_or_default placed k kept d within, ap (λ (p : Piece). p.name) same ∙ is)
 
+-- and the other way round
+pub name_of_kept : (placed : List HomedPiece) (name : List ℕ) → Any (λ (p : HomedPiece). p.piece.name ≡ name) placed → IsPieceName (pieces_of placed) name
+name_of_kept placed name (k, p, inside, at, is) =
+    (k, p.piece, subst (λ (n : ℕ). k < n) (sym (length-pieces_of placed)) inside, piece_at placed k p.piece p inside ∙ ap (λ (x : HomedPiece). x.piece) at, is)
+
 -- two shapes of one name, in two places, are none among distinct ones
 two_names : (shapes : List Drawing) (i j : ℕ) (s t : Drawing) → AreDistinct shapes → i < j → j < length shapes
     → get_or shapes i s ≡ s → get_or shapes j t ≡ t → s.name ≡ t.name → ⊥

@@ -1,5 +1,4 @@
-ghost use Rattle.std.specs.Prelude.{◌≡◌, ◌≤◌, ◌<◌, length, IfOk, IfErr, IfSome, slice_get};
-ghost use Rattle.std.specs.List.{All};
+ghost use Rattle.std.specs.Prelude.{◌≡◌, ◌≤◌, ◌<◌, length, IfOk, IfErr, IfSome, slice_get, All};
 ghost use Rattle.burr_voxels.specs.Near.{IsWithin};
 ghost use Rattle.burr_assembly.specs.Rules.Text.{IsText, IsAssembly, HasCells, text_of};
 ghost use Rattle.burr_assembly.specs.Rules.Faults.{FirstFault};
@@ -9,8 +8,9 @@ ghost use Rattle.burr_assembly.specs.Views.ReaderViews.{IsDue};
 
 use crate::fault::AssemblyFault;
 use crate::piece::{DrawnShape, Piece};
-use crate::text::{read_text, write_text};
-use burr_text::Name;
+use crate::text::beginning::Beginning;
+use crate::text::{add_pieces, add_shapes};
+use burr_text::{Name, cut_at};
 use burr_voxels::Cell;
 use std::alloc::{AllocError, Global};
 use std::marker::Model;
@@ -43,35 +43,41 @@ impl Model for Assembly {
 }
 
 impl Assembly {
-    /// The assembly of these parts.
-    pub(crate) fn new(name: Name, shapes: Vec<DrawnShape>, pieces: Vec<Piece>) -> Assembly
-        requires assembly { IsAssembly
-            (record { name = name; shapes = shapes.items; pieces = pieces_of pieces.items }) }
-        requires homes { AreAtHome shapes.items pieces.items }
-        ensures { result
-            ≡ record { name = name; shapes = shapes.items; pieces = pieces_of pieces.items } }
-    {
-        Assembly {
-            name,
-            shapes,
-            pieces,
-        }
-    }
-
     /// The assembly of a text, or the text's first fault, or `Memory` where a request for memory
     /// was refused.
     pub fn read(alloc: Global, text: &[u8]) -> Result<Assembly, AssemblyFault>
         ensures ok { IfOk result (λ a. IsText text.now a) }
         ensures err { IfErr result (λ e. IsDue e (FirstFault text.now e)) }
     {
-        read_text(alloc, text)
+        let mut beginning = Beginning::Blank;
+        let mut rest = text;
+        let mut line = 1;
+        while !rest.is_empty() {
+            let Some((bytes, more)) = cut_at(rest, b'\n') else {
+                return Err(AssemblyFault::A1 { line });
+            };
+            beginning = beginning.next(alloc, bytes, line)?;
+            rest = more;
+            line += 1;
+        }
+        let (name, shapes, pieces) = beginning.finish(line)?;
+        Ok(Assembly {
+            name,
+            shapes,
+            pieces,
+        })
     }
 
     /// The assembly's text, the one that `read` gives it back from.
     pub fn write(&self, alloc: Global) -> Result<Vec<u8>, AllocError>
         ensures { IfOk result (λ text. text.items ≡ text_of self.now) }
     {
-        write_text(alloc, &self.name, &self.shapes, &self.pieces)
+        let mut text = Vec::from_slice(alloc, b"assembly ")?;
+        text.extend_from_slice(self.name.as_bytes())?;
+        text.push(b'\n')?;
+        add_shapes(&mut text, &self.shapes)?;
+        add_pieces(&mut text, &self.pieces)?;
+        Ok(text)
     }
 
     /// The assembly's name.

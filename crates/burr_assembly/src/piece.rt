@@ -1,7 +1,7 @@
-ghost use Rattle.std.specs.Prelude.{◌≡◌, IfOk, ◌≤◌, ◌<◌, ◌++◌, ◌∷◌, [], length, OnOk, vec_len};
-ghost use Rattle.std.specs.List.{All};
+ghost use Rattle.std.specs.Prelude.{◌≡◌, IfOk, ◌≤◌, ◌<◌, ◌++◌, ◌∷◌, [], length, OnOk, vec_len, All};
 ghost use Rattle.burr_voxels.specs.Near.{IsWithin};
-ghost use Rattle.burr_assembly.specs.Rules.Text.{home_cells as homes_of, drawn_cells, drawn_sides, row_cells, layer_cells};
+ghost use Rattle.burr_text.specs.Names.{IsName};
+ghost use Rattle.burr_assembly.specs.Rules.Text.{home_cells, drawn_cells, drawn_sides, row_cells, layer_cells};
 ghost use Rattle.burr_assembly.specs.Views.HomedPieces.{turn_of, homed_piece};
 
 use burr_text::Name;
@@ -32,24 +32,31 @@ impl Model for Piece {
 }
 
 impl Piece {
-    /// The piece with these parts; its cells are those of its shape, turned and moved.
+    /// The piece of this name and shape; its cells are those of the shape, each turned, and then
+    /// moved to the position.
     pub fn new(
-        name: Name,
-        shape: Name,
+        alloc: Global,
+        name: &[u8],
+        shape: &DrawnShape,
         orientation: Orientation,
         position: Cell,
-        cells: Vec<Cell>,
-    ) -> Piece
-        requires { All (IsWithin 79) cells.items }
-        ensures { result ≡ homed_piece name shape orientation position cells.items }
+    ) -> Result<Piece, AllocError>
+        requires name { IsName name.now }
+        requires position { IsWithin 64 position }
+        ensures { IfOk result (λ p. p ≡ homed_piece name.now shape.now.name orientation position
+            (home_cells (turn_of orientation) position (drawn_cells shape.now.layers))) }
     {
-        Piece {
-            name,
-            shape,
+        let mut cells = Vec::with_capacity(alloc, shape.cells().len())?;
+        for cell in shape.cells() {
+            cells.push(orientation.turn(*cell) + position)?;
+        }
+        Ok(Piece {
+            name: Name::new(alloc, name)?,
+            shape: Name::new(alloc, shape.name().as_bytes())?,
             orientation,
             position,
             cells,
-        }
+        })
     }
 
     pub fn name(&self) -> &Name
@@ -85,26 +92,6 @@ impl Piece {
     }
 }
 
-/// The cells of a shape, each turned, and then moved to a position.
-pub fn home_cells(
-    alloc: Global,
-    cells: &[Cell],
-    orientation: &Orientation,
-    position: Cell,
-) -> Result<Vec<Cell>, AllocError>
-    requires cells { All (IsWithin 15) cells.now }
-    requires position { IsWithin 64 position }
-    ensures homes { IfOk result (λ homes.
-        homes.items ≡ homes_of (turn_of orientation.now) position cells.now) }
-    ensures near { IfOk result (λ homes. All (IsWithin 79) homes.items) }
-{
-    let mut homes = Vec::with_capacity(alloc, cells.len())?;
-    for cell in cells {
-        homes.push(orientation.turn(*cell) + position)?;
-    }
-    Ok(homes)
-}
-
 /// A shape with its name, as it is drawn and as its cells.
 #[derive(Debug, Drop)]
 pub struct DrawnShape {
@@ -114,8 +101,7 @@ pub struct DrawnShape {
 }
 
 impl Model for DrawnShape {
-    ghost use Rattle.std.specs.Prelude.{◌≡◌};
-    ghost use Rattle.std.specs.List.{All};
+    ghost use Rattle.std.specs.Prelude.{◌≡◌, All};
     ghost use Rattle.burr_voxels.specs.Near.{IsWithin};
     ghost use Rattle.burr_assembly.specs.Rules.Text.{Drawing, drawn_cells, drawn_sides};
 
@@ -130,18 +116,25 @@ impl Model for DrawnShape {
 }
 
 impl DrawnShape {
-    /// The shape that these layers draw; `shape` has the sides and the cells of the drawing.
-    pub fn new(name: Name, layers: Vec<Layer>, shape: Shape) -> DrawnShape
-        requires sides { shape.sides ≡ drawn_sides layers.items }
-        requires cells { shape.cells ≡ drawn_cells layers.items }
-        requires near { All (IsWithin 15) shape.cells }
-        ensures { result ≡ record { name = name; layers = layers.items } }
+    /// The shape of this name that these layers draw: its cells are those of the layers upwards, in
+    /// each its rows, in each x rising.
+    pub fn new(alloc: Global, name: Name, layers: Vec<Layer>) -> Result<DrawnShape, AllocError>
+        requires { vec_len layers ≤ SIDE }
+        ensures { IfOk result (λ s. s ≡ record { name = name; layers = layers.items }) }
     {
-        DrawnShape {
+        let mut cells = Vec::new(alloc);
+        for (z, layer) in layers.iter().enumerate() {
+            add_layer_cells(&mut cells, layer.rows(), z)?;
+        }
+        let shape = Shape {
+            sides: sides_of(&layers),
+            cells: Cells::new(cells),
+        };
+        Ok(DrawnShape {
             name,
             layers,
             shape,
-        }
+        })
     }
 
     pub fn name(&self) -> &Name
@@ -277,15 +270,16 @@ fn add_layer_cells(cells: &mut Vec<Cell>, rows: &[Row], z: usize) -> Result<(), 
     Ok(())
 }
 
-/// The cells of a drawing: layers upwards, in each its rows, in each x rising.
-pub fn cells_of(alloc: Global, layers: &[Layer]) -> Result<Vec<Cell>, AllocError>
+/// The sides of the box of a drawing.
+fn sides_of(layers: &[Layer]) -> Cell
     requires { length layers.now ≤ SIDE }
-    ensures cells { IfOk result (λ cells. cells.items ≡ drawn_cells layers.now) }
-    ensures near { IfOk result (λ cells. All (IsWithin 15) cells.items) }
+    ensures { result ≡ drawn_sides layers.now }
 {
-    let mut cells = Vec::new(alloc);
-    for (z, layer) in layers.iter().enumerate() {
-        add_layer_cells(&mut cells, layer.rows(), z)?;
+    let rows = layers.first().map_or(&[][..], Layer::rows);
+    let width = rows.first().map_or(0, |row| row.marks().len());
+    Cell {
+        x: width as i32,
+        y: rows.len() as i32,
+        z: layers.len() as i32,
     }
-    Ok(cells)
 }

@@ -1,63 +1,20 @@
-mod beginning;
+pub mod beginning;
 mod line;
 mod sketch;
 
-ghost use Rattle.std.specs.Prelude.{Ok, Err, IfOk, IfErr, ◌≡◌, ◌++◌, ◌∷◌, [], OnOk};
-ghost use Rattle.burr_assembly.specs.Rules.Text.{IsText, text_of, shape_text, layer_text, piece_text};
-ghost use Rattle.burr_assembly.specs.Rules.Faults.{FirstFault};
-ghost use Rattle.burr_assembly.specs.Views.ReaderViews.{IsDue};
+ghost use Rattle.std.specs.Prelude.{◌≡◌, ◌++◌, ◌∷◌, [], OnOk};
+ghost use Rattle.burr_assembly.specs.Rules.Text.{shape_text, layer_text, piece_text};
 ghost use Rattle.std.specs.Fmt.{signed_decimal};
 ghost use Rattle.std.specs.List.{flat_map};
 ghost use Rattle.burr_assembly.specs.Views.HomedPieces.{pieces_of};
 
-use crate::assembly::Assembly;
-use crate::fault::AssemblyFault;
-use crate::piece::{DrawnShape, Layer, Piece, Row};
-use crate::text::beginning::Beginning;
-use burr_text::{Name, cut_at};
+use crate::piece::{DrawnShape, Layer, Piece};
 use itoa::Buffer;
 pub use line::piece_name;
-use std::alloc::{AllocError, Global};
+use std::alloc::AllocError;
 
-/// The assembly of a text, or the text's first fault.
-pub fn read_text(alloc: Global, text: &[u8]) -> Result<Assembly, AssemblyFault>
-    ensures ok { IfOk result (λ a. IsText text.now a) }
-    ensures err { IfErr result (λ e. IsDue e (FirstFault text.now e)) }
-{
-    let mut beginning = Beginning::Blank;
-    let mut rest = text;
-    let mut line = 1;
-    while !rest.is_empty() {
-        let Some((bytes, more)) = cut_at(rest, b'\n') else {
-            return Err(AssemblyFault::A1 { line });
-        };
-        beginning = beginning.next(alloc, bytes, line)?;
-        rest = more;
-        line += 1;
-    }
-    let (name, shapes, pieces) = beginning.finish(line)?;
-    Ok(Assembly::new(name, shapes, pieces))
-}
-
-/// The text of the assembly with these parts.
-pub fn write_text(
-    alloc: Global,
-    name: &Name,
-    shapes: &[DrawnShape],
-    pieces: &[Piece],
-) -> Result<Vec<u8>, AllocError>
-    ensures { IfOk result (λ text. text.items ≡ text_of
-        (record { name = name.now; shapes = shapes.now; pieces = pieces_of pieces.now })) }
-{
-    let mut text = Vec::from_slice(alloc, b"assembly ")?;
-    text.extend_from_slice(name.as_bytes())?;
-    text.push(b'\n')?;
-    add_shapes(&mut text, shapes)?;
-    add_pieces(&mut text, pieces)?;
-    Ok(text)
-}
-
-fn add_shapes(text: &mut Vec<u8>, shapes: &[DrawnShape]) -> Result<(), AllocError>
+/// Adds the lines of shapes.
+pub fn add_shapes(text: &mut Vec<u8>, shapes: &[DrawnShape]) -> Result<(), AllocError>
     ensures { OnOk result (text.new.items ≡ text.old.items ++ flat_map shape_text shapes.now) }
 {
     for shape in shapes {
@@ -66,7 +23,8 @@ fn add_shapes(text: &mut Vec<u8>, shapes: &[DrawnShape]) -> Result<(), AllocErro
     Ok(())
 }
 
-fn add_pieces(text: &mut Vec<u8>, pieces: &[Piece]) -> Result<(), AllocError>
+/// Adds the lines of pieces.
+pub fn add_pieces(text: &mut Vec<u8>, pieces: &[Piece]) -> Result<(), AllocError>
     ensures { OnOk result (text.new.items ≡
         text.old.items ++ flat_map piece_text (pieces_of pieces.now)) }
 {
@@ -100,16 +58,9 @@ fn add_layer(text: &mut Vec<u8>, layer: &Layer) -> Result<(), AllocError>
 {
     text.extend_from_slice(b"layer\n")?;
     for row in layer.rows() {
-        add_row(text, row)?;
+        text.extend_from_slice(row.marks())?;
+        text.push(b'\n')?;
     }
-    Ok(())
-}
-
-fn add_row(text: &mut Vec<u8>, row: &Row) -> Result<(), AllocError>
-    ensures { OnOk result (text.new.items ≡ text.old.items ++ row.now ++ 10 ∷ []) }
-{
-    text.extend_from_slice(row.marks())?;
-    text.push(b'\n')?;
     Ok(())
 }
 

@@ -10,15 +10,12 @@ ghost use Rattle.burr_assembly.specs.Rules.Text.{IsShapeName, HasCells};
 use crate::assembly::FEWEST_PIECES;
 use crate::fault::AssemblyFault;
 use crate::occupancy::{MOST_PIECES, Occupancy};
-use crate::piece::{DrawnShape, Piece, home_cells};
+use crate::piece::{DrawnShape, Piece};
 use crate::text::line::{PieceLine, TextLine, position};
 use crate::text::sketch::Sketch;
 use burr_text::{Name, is_name};
 use burr_voxels::Orientation;
 use std::alloc::Global;
-
-/// The parts of an assembly: its name, its shapes and its pieces.
-pub type Parts = (Name, Vec<DrawnShape>, Vec<Piece>);
 
 /// What the lines so far have been.
 #[derive(Drop)]
@@ -65,23 +62,47 @@ impl Beginning {
         ensures err { IfErr result (λ e.
             IsDue e (FormGives line (beginning_of self) (form_of form.entry) (Err e))) }
     {
-        match self {
-            Beginning::Blank => begin(alloc, form, line),
-            Beginning::Shapes(header) => after_shapes(alloc, header, form, line),
-            Beginning::Drawing(header, sketch) => in_shape(alloc, header, sketch, form, line),
-            Beginning::Pieces(header, occupancy) => match form {
-                TextLine::Piece(words) => with_piece(alloc, header, occupancy, words, line),
-                TextLine::Assembly(_)
-                | TextLine::Shape(_)
-                | TextLine::Layer
-                | TextLine::Row(_)
-                | TextLine::End => Err(AssemblyFault::A1 { line }),
-            },
+        match (self, form) {
+            (Beginning::Blank, TextLine::Assembly(name)) => {
+                if !is_name(name) {
+                    return Err(AssemblyFault::A2 { line });
+                }
+                let (name, shapes) = (Name::new(alloc, name)?, Vec::new(alloc));
+                Ok(Beginning::Shapes(Header { name, shapes }))
+            }
+            (Beginning::Shapes(header), TextLine::Shape(name)) => {
+                let sketch = header.begin_shape(alloc, name, line)?;
+                Ok(Beginning::Drawing(header, sketch))
+            }
+            (Beginning::Shapes(header), TextLine::Piece(words)) => {
+                if header.shapes.is_empty() {
+                    return Err(AssemblyFault::A1 { line });
+                }
+                header.with_piece(alloc, Occupancy::new(alloc), words, line)
+            }
+            (Beginning::Drawing(header, sketch), TextLine::Layer) => {
+                let sketch = sketch.begin_layer(alloc, line)?;
+                Ok(Beginning::Drawing(header, sketch))
+            }
+            (Beginning::Drawing(header, sketch), TextLine::Row(marks)) => {
+                let sketch = sketch.add_row(alloc, marks, line)?;
+                Ok(Beginning::Drawing(header, sketch))
+            }
+            (Beginning::Drawing(mut header, sketch), TextLine::End) => {
+                let shape = sketch.finish(alloc, line)?;
+                header.shapes.push(shape)?;
+                Ok(Beginning::Shapes(header))
+            }
+            (Beginning::Pieces(header, occupancy), TextLine::Piece(words)) => {
+                header.with_piece(alloc, occupancy, words, line)
+            }
+            _ => Err(AssemblyFault::A1 { line }),
         }
     }
 
-    /// The parts of the assembly, where the text may end here; `line` is the one after the last.
-    pub fn finish(self, line: usize) -> Result<Parts, AssemblyFault>
+    /// The name, the shapes and the pieces of the assembly, where the text may end here; `line` is the
+    /// one after the last.
+    pub fn finish(self, line: usize) -> Result<(Name, Vec<DrawnShape>, Vec<Piece>), AssemblyFault>
         ensures ok { IfOk result (λ parts. EndGives line (beginning_of self)
             (Ok (assembly_of parts.0 parts.1.items parts.2.items))) }
         ensures homes { IfOk result (λ parts. IsHome self → AreAtHome parts.1.items parts.2.items) }
@@ -99,123 +120,10 @@ impl Beginning {
                 if occupancy.pieces().len() < FEWEST_PIECES {
                     return Err(AssemblyFault::A7 { line });
                 }
-                let Header { name, shapes } = header;
-                Ok((name, shapes, occupancy.into_pieces()))
+                Ok((header.name, header.shapes, occupancy.into_pieces()))
             }
         }
     }
-}
-
-/// The first line of the text: the assembly's name.
-fn begin(alloc: Global, form: TextLine<'_>, line: usize) -> Result<Beginning, AssemblyFault>
-    ensures ok { IfOk result (λ next.
-        FormGives line Blank (form_of form.entry) (Ok (beginning_of next))) }
-    ensures home { IfOk result IsHome }
-    ensures err { IfErr result (λ e. IsDue e (FormGives line Blank (form_of form.entry) (Err e))) }
-{
-    match form {
-        TextLine::Assembly(name) => {
-            if !is_name(name) {
-                return Err(AssemblyFault::A2 { line });
-            }
-            Ok(Beginning::Shapes(Header {
-                name: Name::new(alloc, name)?,
-                shapes: Vec::new(alloc),
-            }))
-        }
-        TextLine::Shape(_)
-        | TextLine::Layer
-        | TextLine::Row(_)
-        | TextLine::End
-        | TextLine::Piece(_) => { Err(AssemblyFault::A1 { line }) }
-    }
-}
-
-/// A line after the shapes that have ended: a shape begins, or the first piece comes.
-fn after_shapes(
-    alloc: Global,
-    header: Header,
-    form: TextLine<'_>,
-    line: usize,
-) -> Result<Beginning, AssemblyFault>
-    requires form { IsLineForm (form_of form) }
-    requires distinct { AreDistinct header.shapes.items }
-    ensures ok { IfOk result (λ next. FormGives line (Shapes header.name header.shapes.items)
-        (form_of form.entry) (Ok (beginning_of next))) }
-    ensures home { IfOk result IsHome }
-    ensures err { IfErr result (λ e. IsDue e
-        (FormGives line (Shapes header.name header.shapes.items) (form_of form.entry) (Err e))) }
-{
-    match form {
-        TextLine::Shape(name) => {
-            let sketch = header.begin_shape(alloc, name, line)?;
-            Ok(Beginning::Drawing(header, sketch))
-        }
-        TextLine::Piece(words) => {
-            if header.shapes.is_empty() {
-                return Err(AssemblyFault::A1 { line });
-            }
-            with_piece(alloc, header, Occupancy::new(alloc), words, line)
-        }
-        TextLine::Assembly(_) | TextLine::Layer | TextLine::Row(_) | TextLine::End => {
-            Err(AssemblyFault::A1 { line })
-        }
-    }
-}
-
-/// A line in a shape that has not ended.
-fn in_shape(
-    alloc: Global,
-    mut header: Header,
-    sketch: Sketch,
-    form: TextLine<'_>,
-    line: usize,
-) -> Result<Beginning, AssemblyFault>
-    ensures ok { IfOk result (λ next. FormGives line (sketched header.name header.shapes.items
-        sketch) (form_of form.entry) (Ok (beginning_of next))) }
-    ensures home { IfOk result IsHome }
-    ensures err { IfErr result (λ e. IsDue e (FormGives line
-        (sketched header.name header.shapes.items sketch) (form_of form.entry) (Err e))) }
-{
-    match form {
-        TextLine::Layer => {
-            let sketch = sketch.begin_layer(alloc, line)?;
-            Ok(Beginning::Drawing(header, sketch))
-        }
-        TextLine::Row(marks) => {
-            let sketch = sketch.add_row(alloc, marks, line)?;
-            Ok(Beginning::Drawing(header, sketch))
-        }
-        TextLine::End => {
-            let shape = sketch.finish(alloc, line)?;
-            header.shapes.push(shape)?;
-            Ok(Beginning::Shapes(header))
-        }
-        TextLine::Assembly(_) | TextLine::Shape(_) | TextLine::Piece(_) => Err(AssemblyFault::A1 {
-            line,
-        }),
-    }
-}
-
-/// A piece's line after the shapes and the pieces so far.
-fn with_piece(
-    alloc: Global,
-    header: Header,
-    occupancy: Occupancy,
-    words: PieceLine<'_>,
-    line: usize,
-) -> Result<Beginning, AssemblyFault>
-    requires words { IsPieceWords (words_of words) }
-    requires distinct { AreDistinct header.shapes.items }
-    requires homes { AreAtHome header.shapes.items occupancy }
-    ensures ok { IfOk result (λ next. PieceRule line header.name header.shapes.items
-        (pieces_of occupancy) (words_of words.entry) (Ok (beginning_of next))) }
-    ensures home { IfOk result IsHome }
-    ensures err { IfErr result (λ e. IsDue e (PieceRule line header.name header.shapes.items
-        (pieces_of occupancy) (words_of words.entry) (Err e))) }
-{
-    let piece = header.piece(alloc, &occupancy, words, line)?;
-    Ok(Beginning::Pieces(header, occupancy.with(piece)?))
 }
 
 /// The most shapes of an assembly.
@@ -230,12 +138,7 @@ pub struct Header {
 
 impl Header {
     /// A line `shape NAME` after the shapes so far.
-    pub fn begin_shape(
-        &self,
-        alloc: Global,
-        name: &[u8],
-        line: usize,
-    ) -> Result<Sketch, AssemblyFault>
+    fn begin_shape(&self, alloc: Global, name: &[u8], line: usize) -> Result<Sketch, AssemblyFault>
         ensures ok { IfOk result (λ s. FormGives line (Shapes self.now.name self.now.shapes.items)
             (ShapeLine name.now) (Ok (sketched self.now.name self.now.shapes.items s))) }
         ensures err { IfErr result (λ e. IsDue e (FormGives line
@@ -268,27 +171,22 @@ impl Header {
             .find(|shape| shape.name().as_bytes() == name)
     }
 
-    /// A piece's line after the pieces so far: the piece, if its words are right and it shares no
-    /// cell with an earlier one.
-    pub fn piece(
-        &self,
+    /// A piece's line after the pieces so far; the piece shares no cell with an earlier one.
+    fn with_piece(
+        self,
         alloc: Global,
-        occupancy: &Occupancy,
+        occupancy: Occupancy,
         words: PieceLine<'_>,
         line: usize,
-    ) -> Result<Piece, AssemblyFault>
+    ) -> Result<Beginning, AssemblyFault>
         requires words { IsPieceWords (words_of words) }
-        requires distinct { AreDistinct self.now.shapes.items }
-        requires homes { AreAtHome self.now.shapes.items occupancy.now }
-        ensures ok { IfOk result (λ p. PieceRule line self.now.name self.now.shapes.items
-            (pieces_of occupancy.now) (words_of words.entry)
-            (Ok (Pieces self.now.name self.now.shapes.items
-            (pieces_of occupancy.now ++ p.piece ∷ [])))) }
-        ensures home { IfOk result (λ p. HasCells self.now.shapes.items p.piece p.cells) }
-        ensures room { IfOk result (λ p. length occupancy.now < MOST_PIECES) }
-        ensures free { IfOk result (λ p. IsFirstMeeting occupancy.now p.cells None) }
-        ensures err { IfErr result (λ e. IsDue e (PieceRule line self.now.name self.now.shapes.items
-            (pieces_of occupancy.now) (words_of words.entry) (Err e))) }
+        requires distinct { AreDistinct self.shapes.items }
+        requires homes { AreAtHome self.shapes.items occupancy }
+        ensures ok { IfOk result (λ next. PieceRule line self.name self.shapes.items
+            (pieces_of occupancy) (words_of words.entry) (Ok (beginning_of next))) }
+        ensures home { IfOk result IsHome }
+        ensures err { IfErr result (λ e. IsDue e (PieceRule line self.name self.shapes.items
+            (pieces_of occupancy) (words_of words.entry) (Err e))) }
     {
         let pieces = occupancy.pieces();
         if pieces.len() >= MOST_PIECES {
@@ -306,17 +204,16 @@ impl Header {
         let Some(position) = position(words.x, words.y, words.z) else {
             return Err(AssemblyFault::A5 { line });
         };
-        let cells = home_cells(alloc, shape.cells(), &orientation, position)?;
-        if let Some(earlier) = occupancy.first_with(&cells) {
+        let piece = Piece::new(alloc, words.name, shape, orientation, position)?;
+        if let Some(earlier) = occupancy.first_with(piece.cells()) {
+            let piece = pieces.len() as u8;
             return Err(AssemblyFault::A8 {
                 line,
                 earlier,
-                piece: pieces.len() as u8,
+                piece,
             });
         }
-        let name = Name::new(alloc, words.name)?;
-        let shape = Name::new(alloc, shape.name().as_bytes())?;
-        Ok(Piece::new(name, shape, orientation, position, cells))
+        Ok(Beginning::Pieces(self, occupancy.with(piece)?))
     }
 }
 

@@ -1,6 +1,6 @@
 ghost use Rattle.std.specs.Prelude.{◌≡◌, ◌↔◌, IsTrue, MatchOption};
 ghost use Rattle.burr_voxels.specs.declared.cell.Cell.{Cell as CellOf};
-ghost use Rattle.burr_assembly.specs.Rules.Lines.{LineForm, IsLine, IsMarks, IsPieceWords, PieceWords, piece_words_text, PieceLine as PieceForm};
+ghost use Rattle.burr_assembly.specs.Rules.Lines.{LineForm, IsLine, IsMarks, IsPieceWords, PieceWords, PieceLine as PieceForm};
 ghost use Rattle.burr_assembly.specs.Views.LineViews.{HasWords, form_of, words_of, IsCoordinateText};
 ghost use Rattle.burr_assembly.specs.Rules.Text.{IsPositionText};
 ghost use Rattle.burr_assembly.specs.Rules.PieceNames.{name_at};
@@ -62,8 +62,7 @@ impl TextLine<'_> {
         } else if let Some(name) = bytes.strip_prefix(b"shape ") {
             is_word(name).then_some(TextLine::Shape(name))
         } else {
-            let words = bytes.strip_prefix(b"piece ")?;
-            Some(TextLine::Piece(PieceLine::parse(words)?))
+            Some(TextLine::Piece(PieceLine::parse(bytes)?))
         }
     }
 }
@@ -78,12 +77,11 @@ fn is_row(bytes: &[u8]) -> bool
 impl PieceLine<'_> {
     /// The words after `piece `; None unless there are six words and the last three are numbers.
     fn parse(bytes: &[u8]) -> Option<PieceLine<'_>>
-        ensures { MatchOption result
-            ((w : PieceWords) → IsPieceWords w → ¬ (bytes.now ≡ piece_words_text w))
-            (λ line.
-            IsPieceWords (words_of line) × (bytes.now ≡ piece_words_text (words_of line))) }
+        ensures { MatchOption result ((w : PieceWords) → ¬ IsLine bytes.now (PieceForm w))
+            (λ line. IsLine bytes.now (PieceForm (words_of line))) }
     {
-        let (name, rest) = cut_at(bytes, b' ')?;
+        let words = bytes.strip_prefix(b"piece ")?;
+        let (name, rest) = cut_at(words, b' ')?;
         let (shape, rest) = cut_at(rest, b' ')?;
         let (orientation, rest) = cut_at(rest, b' ')?;
         let (x, rest) = cut_at(rest, b' ')?;
@@ -144,7 +142,7 @@ pub fn piece_name(text: &[u8], piece: u8) -> &[u8]
     let mut left = piece;
     let mut rest = text;
     while let Some((line, more)) = cut_at(rest, b'\n') {
-        if let Some(words) = piece_line(line) {
+        if let Some(words) = PieceLine::parse(line) {
             if left == 0 {
                 return words.name;
             }
@@ -153,20 +151,4 @@ pub fn piece_name(text: &[u8], piece: u8) -> &[u8]
         rest = more;
     }
     b""
-}
-
-/// The words of a line that is of a piece's form.
-fn piece_line(bytes: &[u8]) -> Option<PieceLine<'_>>
-    ensures { MatchOption result
-        ((w : PieceWords) → ¬ IsLine bytes.now (PieceForm w))
-        (λ words. IsLine bytes.now (PieceForm (words_of words))) }
-{
-    match TextLine::parse(bytes)? {
-        TextLine::Piece(words) => Some(words),
-        TextLine::Assembly(_)
-        | TextLine::Shape(_)
-        | TextLine::Layer
-        | TextLine::Row(_)
-        | TextLine::End => None,
-    }
 }

@@ -1,13 +1,11 @@
 ghost use Rattle.std.specs.Prelude.{◌≡◌, ◌≤◌, ◌<◌, ◌↔◌, ◌++◌, ◌∷◌, [], ℕ, List, None, Ok, Err, length, IsTrue, IfOk, IfErr, All};
-ghost use Rattle.burr_assembly.specs.Rules.Text.{drawn_sides};
 ghost use Rattle.burr_assembly.specs.Rules.Lines.{LayerLine, RowLine, EndLine};
 ghost use Rattle.burr_assembly.specs.Rules.Faults.{IsFinishedLayer, IsRow, Shapes};
 ghost use Rattle.burr_assembly.specs.Views.ReaderViews.{sketched, SketchGives, IsDue};
 
 use crate::fault::AssemblyFault;
-use crate::piece::{DrawnShape, Layer, Row, SIDE, cells_of};
+use crate::piece::{DrawnShape, Layer, Row, SIDE};
 use burr_text::Name;
-use burr_voxels::{Cell, Cells, Shape};
 use std::alloc::Global;
 use std::marker::Model;
 
@@ -54,30 +52,24 @@ impl Sketch {
             SketchGives line self LayerLine (λ name shapes. Ok (sketched name shapes s))) }
         ensures err { IfErr result (λ e. IsDue e (SketchGives line self LayerLine (λ _ _. Err e))) }
     {
-        let Sketch {
-            name,
-            mut layers,
-            begun,
-        } = self;
+        let (name, mut layers, begun) = (self.name, self.layers, self.begun);
         let next = Some(Layer::new(alloc));
-        match begun {
-            None => Ok(Sketch {
+        let Some(layer) = begun else {
+            return Ok(Sketch {
                 name,
                 layers,
                 begun: next,
-            }),
-            Some(layer) => {
-                if !is_finished_layer(&layers, &layer) || layers.len() + 1 >= SIDE {
-                    return Err(AssemblyFault::A3 { line });
-                }
-                layers.push(layer)?;
-                Ok(Sketch {
-                    name,
-                    layers,
-                    begun: next,
-                })
-            }
+            });
+        };
+        if !is_finished_layer(&layers, &layer) || layers.len() + 1 >= SIDE {
+            return Err(AssemblyFault::A3 { line });
         }
+        layers.push(layer)?;
+        Ok(Sketch {
+            name,
+            layers,
+            begun: next,
+        })
     }
 
     /// A row of the layer that has begun; where none has, no row may stand here.
@@ -87,11 +79,7 @@ impl Sketch {
         ensures err { IfErr result (λ e.
             IsDue e (SketchGives line self (RowLine marks.now) (λ _ _. Err e))) }
     {
-        let Sketch {
-            name,
-            layers,
-            begun,
-        } = self;
+        let (name, layers, begun) = (self.name, self.layers, self.begun);
         let Some(mut layer) = begun else {
             return Err(AssemblyFault::A1 { line });
         };
@@ -113,11 +101,7 @@ impl Sketch {
             SketchGives line self EndLine (λ name shapes. Ok (Shapes name (shapes ++ s ∷ [])))) }
         ensures err { IfErr result (λ e. IsDue e (SketchGives line self EndLine (λ _ _. Err e))) }
     {
-        let Sketch {
-            name,
-            mut layers,
-            begun,
-        } = self;
+        let (name, mut layers, begun) = (self.name, self.layers, self.begun);
         let Some(layer) = begun else {
             return Err(AssemblyFault::A1 { line });
         };
@@ -125,15 +109,12 @@ impl Sketch {
             return Err(AssemblyFault::A3 { line });
         }
         layers.push(layer)?;
-        let cells = cells_of(alloc, &layers)?;
+        let shape = DrawnShape::new(alloc, name, layers)?;
+        let cells = shape.cells();
         if cells.is_empty() || cells.len() > MOST_CELLS {
             return Err(AssemblyFault::A3 { line });
         }
-        let shape = Shape {
-            sides: sides_of(&layers),
-            cells: Cells::new(cells),
-        };
-        Ok(DrawnShape::new(name, layers, shape))
+        Ok(shape)
     }
 }
 
@@ -142,11 +123,10 @@ fn is_finished_layer(layers: &[Layer], layer: &Layer) -> bool
     ensures { IsTrue result ↔ IsFinishedLayer layers.now layer.now }
 {
     let height = layer.rows().len();
-    let is_like_first = match layers.first() {
-        Some(first) => first.rows().len() == height,
-        None => true,
-    };
-    height >= 1 && is_like_first
+    height >= 1
+        && layers
+            .first()
+            .is_none_or(|first| first.rows().len() == height)
 }
 
 /// Whether a row may stand after those of a layer: there is room, and it is as wide as the shape's
@@ -155,33 +135,10 @@ fn is_row_of(layers: &[Layer], layer: &Layer, marks: &[u8]) -> bool
     requires { All (λ (rows : List (List ℕ)). 0 < length rows) layers.now }
     ensures { IsTrue result ↔ IsRow layers.now layer.now marks.now }
 {
-    let first_layer = match layers.first() {
-        Some(first) => first.rows(),
-        None => layer.rows(),
-    };
-    let is_like_first = match first_layer.first() {
-        Some(row) => row.marks().len() == marks.len(),
-        None => true,
-    };
-    marks.len() <= SIDE && layer.rows().len() < SIDE && is_like_first
-}
-
-/// The sides of the box of a drawing.
-fn sides_of(layers: &[Layer]) -> Cell
-    requires { length layers.now ≤ SIDE }
-    ensures { result ≡ drawn_sides layers.now }
-{
-    let rows = match layers.first() {
-        Some(layer) => layer.rows(),
-        None => &[],
-    };
-    let width = match rows.first() {
-        Some(row) => row.marks().len(),
-        None => 0,
-    };
-    Cell {
-        x: width as i32,
-        y: rows.len() as i32,
-        z: layers.len() as i32,
-    }
+    let first_layer = layers.first().map_or(layer.rows(), Layer::rows);
+    marks.len() <= SIDE
+        && layer.rows().len() < SIDE
+        && first_layer
+            .first()
+            .is_none_or(|row| row.marks().len() == marks.len())
 }
