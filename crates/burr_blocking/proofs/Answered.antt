@@ -13,7 +13,6 @@ use Rattle.burr_assembly.specs.Rules.Homes.{home_at, home_of, homes_of}
 use Rattle.burr_blocking.specs.declared.triangle.translate.Translate.{Translate}
 use Rattle.burr_blocking.specs.declared.triangle.Classes.{Classes}
 use Rattle.burr_blocking.specs.declared.triangle.translate.Pair.{Pair}
-use Rattle.burr_blocking.specs.declared.triangle.ClassPairs.{ClassPairs}
 use Rattle.burr_blocking.specs.Rules.Pairs.{IsBlocked, IsFreeFrom}
 use Rattle.burr_blocking.specs.Views.Classes.{AreClasses, IsOfClass}
 use Rattle.burr_blocking.specs.Views.Overlaps.{HasNoneAhead}
@@ -32,24 +31,24 @@ class_read homes c q t are lt is = subst (IsOfClass homes c.representatives.item
 
 module _ {P : Type 0} (Overlaps : P → Cell → Type 0) where
   -- the pairs of a piece's class
-  row_read : (homes : List (List Cell)) (c : Classes) (kept : List (ClassPairs P)) (q : ℕ) (t : Translate) (row : ClassPairs P) → IsTriangle Overlaps homes c kept → q < length homes → t ≡ get_or c.translates.items q t → row ≡ get_or kept t.class row → AreClassPairs Overlaps homes c t.class row
+  row_read : (homes : List (List Cell)) (c : Classes) (kept : List (Vec P Global)) (q : ℕ) (t : Translate) (row : Vec P Global) → IsTriangle Overlaps homes c kept → q < length homes → t ≡ get_or c.translates.items q t → row ≡ get_or kept t.class row → AreClassPairs Overlaps homes c t.class row
   row_read homes c kept q t row whole lt is row_is =
       let of = class_read homes c q t whole.pieces lt is in
       one_read (AreClassPairs Overlaps homes c) kept t.class t.class row whole.each (omega (arith, whole.count, of.class)) refl row_is
 
   -- the pair of two pieces is kept, where the first one's class is the earlier
-  pair_there : (homes : List (List Cell)) (c : Classes) (kept : List (ClassPairs P)) (p q : ℕ) (s t : Translate) (row : ClassPairs P) → IsTriangle Overlaps homes c kept → p ≢ q → p < length homes → q < length homes → s ≡ get_or c.translates.items p s → t ≡ get_or c.translates.items q t → s.class ≤ t.class → row ≡ get_or kept t.class row → s.class < length row.pairs.items
+  pair_there : (homes : List (List Cell)) (c : Classes) (kept : List (Vec P Global)) (p q : ℕ) (s t : Translate) (row : Vec P Global) → IsTriangle Overlaps homes c kept → p ≢ q → p < length homes → q < length homes → s ≡ get_or c.translates.items p s → t ≡ get_or c.translates.items q t → s.class ≤ t.class → row ≡ get_or kept t.class row → s.class < length row.items
   pair_there homes c kept p q s t row whole two lt_p lt_q is_s is_t le row_is =
       let pairs = row_read homes c kept q t row whole lt_q is_t row_is in
-      pair_kept c p q (length row.pairs.items) s t two (omega (arith, whole.pieces.count, lt_p)) (omega (arith, whole.pieces.count, lt_q)) is_s is_t le pairs.count
+      pair_kept c p q (length row.items) s t two (omega (arith, whole.pieces.count, lt_p)) (omega (arith, whole.pieces.count, lt_q)) is_s is_t le pairs.count
 
   -- and its overlaps are those of the representatives
-  pair_read : (homes : List (List Cell)) (c : Classes) (kept : List (ClassPairs P)) (p q : ℕ) (s t : Translate) (row : ClassPairs P) (pair : P) → IsTriangle Overlaps homes c kept → p ≢ q → p < length homes → q < length homes → s ≡ get_or c.translates.items p s → t ≡ get_or c.translates.items q t → s.class ≤ t.class → row ≡ get_or kept t.class row → pair ≡ get_or row.pairs.items s.class pair → IsPairOf Overlaps homes c.representatives.items s.class t.class pair
+  pair_read : (homes : List (List Cell)) (c : Classes) (kept : List (Vec P Global)) (p q : ℕ) (s t : Translate) (row : Vec P Global) (pair : P) → IsTriangle Overlaps homes c kept → p ≢ q → p < length homes → q < length homes → s ≡ get_or c.translates.items p s → t ≡ get_or c.translates.items q t → s.class ≤ t.class → row ≡ get_or kept t.class row → pair ≡ get_or row.items s.class pair → IsPairOf Overlaps homes c.representatives.items s.class t.class pair
   pair_read homes c kept p q s t row pair whole two lt_p lt_q is_s is_t le row_is pair_is =
       let pairs = row_read homes c kept q t row whole lt_q is_t row_is in
-      one_read (λ (k : ℕ) (o : P). IsPairOf Overlaps homes c.representatives.items k t.class o) row.pairs.items s.class s.class pair pairs.pairs (pair_there homes c kept p q s t row whole two lt_p lt_q is_s is_t le row_is) refl pair_is
+      one_read (λ (k : ℕ) (o : P). IsPairOf Overlaps homes c.representatives.items k t.class o) row.items s.class s.class pair pairs.pairs (pair_there homes c kept p q s t row whole two lt_p lt_q is_s is_t le row_is) refl pair_is
 
-  answers_blocked : (homes : List (List Cell)) (c : Classes) (kept : List (ClassPairs P)) (p q : ℕ) (d : Cell) (s t : Translate) (way : Cell) (row : ClassPairs P) (pair : P) (r : Bool) → IsTriangle Overlaps homes c kept → AreOfClasses homes c p q s t → way ≡ displacement_of s.displacement t.displacement d → s.class ≤ t.class → row ≡ get_or kept t.class row → pair ≡ get_or row.pairs.items s.class pair → IsTrue r ↔ Overlaps pair way → IsTrue r ↔ IsBlocked (home_at homes p) (home_at homes q) d
+  answers_blocked : (homes : List (List Cell)) (c : Classes) (kept : List (Vec P Global)) (p q : ℕ) (d : Cell) (s t : Translate) (way : Cell) (row : Vec P Global) (pair : P) (r : Bool) → IsTriangle Overlaps homes c kept → AreOfClasses homes c p q s t → way ≡ displacement_of s.displacement t.displacement d → s.class ≤ t.class → row ≡ get_or kept t.class row → pair ≡ get_or row.items s.class pair → IsTrue r ↔ Overlaps pair way → IsTrue r ↔ IsBlocked (home_at homes p) (home_at homes q) d
   answers_blocked homes c kept p q d s t way row pair r whole a way_is le row_is pair_is test =
       let rs = c.representatives.items in
       let one = class_read homes c p s whole.pieces a.first a.from in
@@ -57,7 +56,7 @@ module _ {P : Type 0} (Overlaps : P → Cell → Type 0) where
       let told = tells_blocked (representative_at homes rs s.class) (representative_at homes rs t.class) (Overlaps pair) way r (pair_read homes c kept p q s t row pair whole a.two a.first a.second a.from a.to le row_is pair_is) test in
       tells_pieces_blocked (home_at homes p) (home_at homes q) (representative_at homes rs s.class) (representative_at homes rs t.class) s.displacement t.displacement d way r one.translate other.translate way_is told
 
-  answers_free : (homes : List (List Cell)) (c : Classes) (kept : List (ClassPairs P)) (p q : ℕ) (d : Cell) (s t : Translate) (way : Cell) (direction : Direction) (row : ClassPairs P) (pair : P) (r : Bool) → IsTriangle Overlaps homes c kept → AreOfClasses homes c p q s t → way ≡ displacement_of s.displacement t.displacement d → s.class ≤ t.class → row ≡ get_or kept t.class row → pair ≡ get_or row.pairs.items s.class pair → IsTrue r ↔ HasNoneAhead (Overlaps pair) way direction → IsTrue r ↔ IsFreeFrom (home_at homes p) (home_at homes q) d direction
+  answers_free : (homes : List (List Cell)) (c : Classes) (kept : List (Vec P Global)) (p q : ℕ) (d : Cell) (s t : Translate) (way : Cell) (direction : Direction) (row : Vec P Global) (pair : P) (r : Bool) → IsTriangle Overlaps homes c kept → AreOfClasses homes c p q s t → way ≡ displacement_of s.displacement t.displacement d → s.class ≤ t.class → row ≡ get_or kept t.class row → pair ≡ get_or row.items s.class pair → IsTrue r ↔ HasNoneAhead (Overlaps pair) way direction → IsTrue r ↔ IsFreeFrom (home_at homes p) (home_at homes q) d direction
   answers_free homes c kept p q d s t way direction row pair r whole a way_is le row_is pair_is test =
       let rs = c.representatives.items in
       let one = class_read homes c p s whole.pieces a.first a.from in
@@ -67,7 +66,7 @@ module _ {P : Type 0} (Overlaps : P → Cell → Type 0) where
 
   -- The other order of the two classes
 
-  answers_blocked_back : (homes : List (List Cell)) (c : Classes) (kept : List (ClassPairs P)) (p q : ℕ) (d : Cell) (s t : Translate) (way back : Cell) (row : ClassPairs P) (pair : P) (r : Bool) → IsTriangle Overlaps homes c kept → AreOfClasses homes c p q s t → way ≡ displacement_of s.displacement t.displacement d → t.class ≤ s.class → row ≡ get_or kept s.class row → pair ≡ get_or row.pairs.items t.class pair → back ≡ minus origin way → IsTrue r ↔ Overlaps pair back → IsTrue r ↔ IsBlocked (home_at homes p) (home_at homes q) d
+  answers_blocked_back : (homes : List (List Cell)) (c : Classes) (kept : List (Vec P Global)) (p q : ℕ) (d : Cell) (s t : Translate) (way back : Cell) (row : Vec P Global) (pair : P) (r : Bool) → IsTriangle Overlaps homes c kept → AreOfClasses homes c p q s t → way ≡ displacement_of s.displacement t.displacement d → t.class ≤ s.class → row ≡ get_or kept s.class row → pair ≡ get_or row.items t.class pair → back ≡ minus origin way → IsTrue r ↔ Overlaps pair back → IsTrue r ↔ IsBlocked (home_at homes p) (home_at homes q) d
   answers_blocked_back homes c kept p q d s t way back row pair r whole a way_is le row_is pair_is back_is test =
       let rs = c.representatives.items in
       let one = class_read homes c p s whole.pieces a.first a.from in
@@ -75,7 +74,7 @@ module _ {P : Type 0} (Overlaps : P → Cell → Type 0) where
       let told = tells_blocked_back (representative_at homes rs s.class) (representative_at homes rs t.class) (Overlaps pair) way back r back_is (pair_read homes c kept q p t s row pair whole (λ (e : q ≡ p). a.two (sym e)) a.second a.first a.to a.from le row_is pair_is) test in
       tells_pieces_blocked (home_at homes p) (home_at homes q) (representative_at homes rs s.class) (representative_at homes rs t.class) s.displacement t.displacement d way r one.translate other.translate way_is told
 
-  answers_free_back : (homes : List (List Cell)) (c : Classes) (kept : List (ClassPairs P)) (p q : ℕ) (d : Cell) (s t : Translate) (way back : Cell) (direction turned : Direction) (row : ClassPairs P) (pair : P) (r : Bool) → IsTriangle Overlaps homes c kept → AreOfClasses homes c p q s t → way ≡ displacement_of s.displacement t.displacement d → t.class ≤ s.class → row ≡ get_or kept s.class row → pair ≡ get_or row.pairs.items t.class pair → back ≡ minus origin way → ((k : ℤ) → along turned k ≡ minus origin (along direction k)) → IsTrue r ↔ HasNoneAhead (Overlaps pair) back turned → IsTrue r ↔ IsFreeFrom (home_at homes p) (home_at homes q) d direction
+  answers_free_back : (homes : List (List Cell)) (c : Classes) (kept : List (Vec P Global)) (p q : ℕ) (d : Cell) (s t : Translate) (way back : Cell) (direction turned : Direction) (row : Vec P Global) (pair : P) (r : Bool) → IsTriangle Overlaps homes c kept → AreOfClasses homes c p q s t → way ≡ displacement_of s.displacement t.displacement d → t.class ≤ s.class → row ≡ get_or kept s.class row → pair ≡ get_or row.items t.class pair → back ≡ minus origin way → ((k : ℤ) → along turned k ≡ minus origin (along direction k)) → IsTrue r ↔ HasNoneAhead (Overlaps pair) back turned → IsTrue r ↔ IsFreeFrom (home_at homes p) (home_at homes q) d direction
   answers_free_back homes c kept p q d s t way back direction turned row pair r whole a way_is le row_is pair_is back_is opposite test =
       let rs = c.representatives.items in
       let one = class_read homes c p s whole.pieces a.first a.from in
@@ -85,7 +84,7 @@ module _ {P : Type 0} (Overlaps : P → Cell → Type 0) where
 
 -- The pair of two pieces is read of a row
 
-module _ {P : Type 0} (Overlaps : P → Cell → Type 0) (a : Assembly) (c : Classes) (kept : List (ClassPairs P)) (rows : List (Vec Pair Global)) (now : ClassedAssembly) (same : record { assembly = a; classes = c } ≡ now) (whole : IsTriangle Overlaps (homes_of a) c kept × AreRows c rows) (p q n m : ℕ) (n_is : n ≡ p) (m_is : m ≡ q) (first : p < length now.assembly.pieces) (second : q < length now.assembly.pieces) where
+module _ {P : Type 0} (Overlaps : P → Cell → Type 0) (a : Assembly) (c : Classes) (kept : List (Vec P Global)) (rows : List (Vec Pair Global)) (now : ClassedAssembly) (same : record { assembly = a; classes = c } ≡ now) (whole : IsTriangle Overlaps (homes_of a) c kept × AreRows c rows) (p q n m : ℕ) (n_is : n ≡ p) (m_is : m ≡ q) (first : p < length now.assembly.pieces) (second : q < length now.assembly.pieces) where
   at_home : (k : ℕ) → k < length now.assembly.pieces → k < length (homes_of a)
   at_home k lt = has_home a k (subst (λ (t : ClassedAssembly). k < length t.assembly.pieces) (sym same) lt)
 
@@ -120,17 +119,17 @@ module _ (pair : Pair) (s t : Translate) (d way : Cell) (shift : pair.shift ≡ 
       ∙ ap (λ (x : Cell). turned_by turned (plus x d)) shift
       ∙ ap (turned_by turned) (shifted_between s.displacement t.displacement d)
 
-module _ {P : Type 0} (Overlaps : P → Cell → Type 0) (homes : List (List Cell)) (c : Classes) (kept : List (ClassPairs P)) (whole : IsTriangle Overlaps homes c kept) (pair : Pair) (p q : ℕ) where
-  module _ (row : ClassPairs P) (row_is : row ≡ get_or kept pair.later row) where
+module _ {P : Type 0} (Overlaps : P → Cell → Type 0) (homes : List (List Cell)) (c : Classes) (kept : List (Vec P Global)) (whole : IsTriangle Overlaps homes c kept) (pair : Pair) (p q : ℕ) where
+  module _ (row : Vec P Global) (row_is : row ≡ get_or kept pair.later row) where
     row_at : (u : ℕ) → pair.later ≡ u → row ≡ get_or kept u row
     row_at u e = row_is ∙ ap (λ (k : ℕ). get_or kept k row) e
 
     -- the row of the later class has the pair
-    pub pair_in_row : IsPairOfPieces homes c pair p q → pair.earlier < length row.pairs.items
+    pub pair_in_row : IsPairOfPieces homes c pair p q → pair.earlier < length row.items
     pair_in_row (s, t, of, by) = by_order by.classes
       where
         by_order : ((pair.is_turned ≡ false) × (pair.earlier ≡ s.class) × (pair.later ≡ t.class))
-            ⊎ ((pair.is_turned ≡ true) × (pair.earlier ≡ t.class) × (pair.later ≡ s.class)) → pair.earlier < length row.pairs.items
+            ⊎ ((pair.is_turned ≡ true) × (pair.earlier ≡ t.class) × (pair.later ≡ s.class)) → pair.earlier < length row.items
         by_order (inl (straight, earlier, later)) =
             let there = pair_there Overlaps homes c kept p q s t row whole of.two of.first of.second of.from of.to (omega (arith, by.order, earlier, later)) (row_at t.class later) in
             omega (arith, there, earlier)
@@ -138,9 +137,9 @@ module _ {P : Type 0} (Overlaps : P → Cell → Type 0) (homes : List (List Cel
             let there = pair_there Overlaps homes c kept q p t s row whole (λ (e : q ≡ p). of.two (sym e)) of.second of.first of.to of.from (omega (arith, by.order, earlier, later)) (row_at s.class later) in
             omega (arith, there, earlier)
 
-    module _ (one : P) (one_is : one ≡ get_or row.pairs.items pair.earlier one) (d way : Cell) (way_is : way ≡ way_of pair d) (r : Bool) where
-      one_at : (u : ℕ) → pair.earlier ≡ u → one ≡ get_or row.pairs.items u one
-      one_at u e = one_is ∙ ap (λ (k : ℕ). get_or row.pairs.items k one) e
+    module _ (one : P) (one_is : one ≡ get_or row.items pair.earlier one) (d way : Cell) (way_is : way ≡ way_of pair d) (r : Bool) where
+      one_at : (u : ℕ) → pair.earlier ≡ u → one ≡ get_or row.items u one
+      one_at u e = one_is ∙ ap (λ (k : ℕ). get_or row.items k one) e
 
       -- it tells of the two pieces whether they overlap
       pub pair_blocked : IsTrue r ↔ Overlaps one way → IsPairOfPieces homes c pair p q → IsTrue r ↔ IsBlocked (home_at homes p) (home_at homes q) d

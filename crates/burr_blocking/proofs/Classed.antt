@@ -25,8 +25,10 @@ of_class_still homes rs more cells t of = record {
   translate = of.translate ∙ ap (λ (r : ℕ). shifted t.displacement (home_at homes r)) (sym (get_or_append_left rs more 0 t.class of.class));
 }
 
-pub one_translate : (homes : List (List Cell)) (n : ℕ) (c new : Classes) (t : Translate) → AreFirstClasses homes n c → IsOfClass homes c.representatives.items (home_at homes n) t → new.representatives.items ≡ c.representatives.items → new.translates.items ≡ c.translates.items ++ t ∷ [] → AreFirstClasses homes (n + 1) new
-one_translate homes n c new t first of same more =
+pub one_translate : (homes : List (List Cell)) (n : ℕ) (c new : Classes) (before : List Translate) (s t : Translate) → AreFirstClasses homes n c → IsOfClass homes c.representatives.items (home_at homes n) s → new.representatives.items ≡ c.representatives.items → before ≡ c.translates.items → new.translates.items ≡ before ++ t ∷ [] → t.class ≡ s.class → t.displacement ≡ s.displacement → AreFirstClasses homes (n + 1) new
+one_translate homes n c new before s t first is same still pushed class_is moved_is =
+    let of : IsOfClass homes c.representatives.items (home_at homes n) t = record { class = omega (arith, class_is, is.class); translate = rw (class_is, moved_is) is.translate } in
+    let more : new.translates.items ≡ c.translates.items ++ t ∷ [] = pushed ∙ ap (λ (ts : List Translate). ts ++ t ∷ []) still in
     let rs = c.representatives.items in
     let ts = c.translates.items in
     let P : ℕ → Translate → Type 0 = λ p u. IsOfClass homes rs (home_at homes p) u in
@@ -37,16 +39,17 @@ one_translate homes n c new t first of same more =
       each = rw (same, more) each;
     }
 
-pub one_class : (homes : List (List Cell)) (n : ℕ) (c new : Classes) (t : Translate) → AreFirstClasses homes n c → n < length homes → t.class ≡ length c.representatives.items → t.displacement ≡ origin → new.representatives.items ≡ c.representatives.items ++ n ∷ [] → new.translates.items ≡ c.translates.items ++ t ∷ [] → AreFirstClasses homes (n + 1) new
-one_class homes n c new t first lt class_is nothing same more =
+pub one_class : (homes : List (List Cell)) (n : ℕ) (c new : Classes) (before : List Translate) (t : Translate) → AreFirstClasses homes n c → n < length homes → new.representatives.items ≡ c.representatives.items ++ n ∷ [] → before ≡ c.translates.items → new.translates.items ≡ before ++ t ∷ [] → t.class ≡ length c.representatives.items → t.displacement ≡ origin → AreFirstClasses homes (n + 1) new
+one_class homes n c new before t first lt same still pushed class_is nothing =
+    let more : new.translates.items ≡ c.translates.items ++ t ∷ [] = pushed ∙ ap (λ (ts : List Translate). ts ++ t ∷ []) still in
     let rs = c.representatives.items in
     let ts = c.translates.items in
     let wider : List ℕ = rs ++ n ∷ [] in
-    let still : (p : ℕ) (d : Translate) → p < length ts → IsOfClass homes wider (home_at homes p) (get_or ts p d) = λ p d below. of_class_still homes rs (n ∷ []) (home_at homes p) (get_or ts p d) (first.each p d below) in
+    let kept : (p : ℕ) (d : Translate) → p < length ts → IsOfClass homes wider (home_at homes p) (get_or ts p d) = λ p d below. of_class_still homes rs (n ∷ []) (home_at homes p) (get_or ts p d) (first.each p d below) in
     let own : representative_at homes wider t.class ≡ home_at homes n = ap (λ (k : ℕ). home_at homes k) (ap (λ (k : ℕ). get_or wider k 0) class_is ∙ get_or-append_seam rs n [] 0) in
     let here : IsTranslate (representative_at homes wider t.class) t.displacement (home_at homes n) = translate_of_itself (home_at homes n) ∙ ap (λ (d : Cell). shifted d (home_at homes n)) (sym nothing) ∙ ap (shifted t.displacement) (sym own) in
     let of : IsOfClass homes wider (home_at homes n) t = record { class = omega (arith, class_is, length-append rs (n ∷ [])); translate = here } in
-    let each : (p : ℕ) (d : Translate) → p < length (ts ++ t ∷ []) → IsOfClass homes wider (home_at homes p) (get_or (ts ++ t ∷ []) p d) = one_pushed (λ (p : ℕ) (u : Translate). IsOfClass homes wider (home_at homes p) u) ts t still (subst (λ (k : ℕ). IsOfClass homes wider (home_at homes k) t) (sym first.count) of) in
+    let each : (p : ℕ) (d : Translate) → p < length (ts ++ t ∷ []) → IsOfClass homes wider (home_at homes p) (get_or (ts ++ t ∷ []) p d) = one_pushed (λ (p : ℕ) (u : Translate). IsOfClass homes wider (home_at homes p) u) ts t kept (subst (λ (k : ℕ). IsOfClass homes wider (home_at homes k) t) (sym first.count) of) in
     let pieces : All (λ p. p < length homes) wider = All-append (λ (p : ℕ). p < length homes) rs (n ∷ []) first.representatives (one_of n lt) in
     record {
       count = ap length more ∙ length-append ts (t ∷ []) ∙ ap (λ (k : ℕ). k + 1) first.count;

@@ -26,11 +26,16 @@ use Rattle.burr_blocking.proofs.Shifts.{no_bit, or_again, joined_bits_from, join
 pub in_rows : (e : Extent) (d : Cell) → IsInBox e d → IsInRows e d
 in_rows e d h = record { y_from = h.y_from; y_to = h.y_to; z_from = h.z_from; z_to = h.z_to }
 
-pub row_lt : (e : Extent) (d : Cell) → IsInBox e d → row_of e d < row_count_of e
+pub row_lt : (e : Extent) (d : Cell) → IsInRows e d → row_of e d < row_count_of e
 row_lt e d h =
     let l = e.least in
     let g = e.greatest in
     mul-add-lt (int_gap l.z d.z) (deep_of e) (int_gap l.y d.y) (high_of e) (gap_lt l.z d.z g.z _ refl h.z_from h.z_to) (gap_lt l.y d.y g.y _ refl h.y_from h.y_to)
+
+-- and one of at most 31 rows in each of at most 31 layers
+pub row_few : (e : Extent) (d : Cell) → IsInRows e d → row_of e d ≤ 960
+row_few e d h =
+    omega (arith, row_lt e d h, mul-le (deep_of e) (high_of e) 31 31 (gap_few e.least.y e.greatest.y 30 e.small.y_rises e.small.y_near) (gap_few e.least.z e.greatest.z 30 e.small.z_rises e.small.z_near))
 
 pub column_lt : (e : Extent) (d : Cell) → IsInBox e d → column_of e d < wide_of e
 column_lt e d h = gap_lt e.least.x d.x e.greatest.x _ refl h.x_from h.x_to
@@ -229,7 +234,7 @@ box_fits e hull other ps qs i first last x box lt first_is last_is =
     let p : Cell = get_or ps i x in
     let whole = box.holds p other.greatest (cell_inside p) (greatest_inside other.least other.greatest box.other_small) in
     let sum = row_sum e p other.greatest hull.greatest other.least box.corner whole (box_low e hull other ps qs i x box lt) (box_last e hull other ps qs box) in
-    omega (arith, sum, first_is, last_is, row_lt e (minus other.greatest p) whole)
+    omega (arith, sum, first_is, last_is, row_lt e (minus other.greatest p) (in_rows e (minus other.greatest p) whole))
   where
     cell_inside : (p : Cell) → IsInBox hull (get_or ps i x)
     cell_inside p = All-get_or (IsInBox hull) ps i x lt box.cells

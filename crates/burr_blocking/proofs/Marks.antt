@@ -12,7 +12,7 @@ use Rattle.burr_voxels.specs.Grid.{plus, minus}
 use Rattle.burr_voxels.proofs.Common.Ahead.{same_cell}
 use Rattle.burr_voxels.proofs.Common.Freedom.{Contains-map, Contains-from_map}
 use Rattle.burr_blocking.specs.declared.extent.Extent.{Extent}
-use Rattle.burr_blocking.specs.Views.Boxes.{IsInBox, wide_of, deep_of, high_of, size_of, place_of}
+use Rattle.burr_blocking.specs.Views.Boxes.{AreDisplacements, IsHomeBox, IsInBox, wide_of, deep_of, high_of, size_of, place_of}
 use Rattle.burr_blocking.specs.Views.Corners.{IsBetween, AreCorners}
 use Rattle.burr_blocking.specs.Views.Overlaps.{AreOverlapsOf}
 use Rattle.burr_blocking.specs.Views.Tables.{HasMark, SetsMarks, IsMarked}
@@ -170,12 +170,12 @@ pub record IsBoxOf (e hull other : Extent) (ps qs : List Cell) : Type 0 where
   pub cells : All (IsInBox hull) ps
   pub others : All (IsInBox other) qs
 
-pub is_box_of : (e hull other : Extent) (ps qs : List Cell) → e.least ≡ minus other.least hull.greatest → ((from to : Cell) → IsInBox hull from → IsInBox other to → IsInBox e (minus to from)) → AreCorners 15 hull.least hull.greatest → AreCorners 15 other.least other.greatest → All (IsInBox hull) ps → All (IsInBox other) qs → IsBoxOf e hull other ps qs
-is_box_of e hull other ps qs corner holds small also cells others = record {
-  corner = corner;
-  holds = holds;
-  hull_small = small;
-  other_small = also;
+pub is_box_of : (e hull other : Extent) (ps qs : List Cell) → AreDisplacements hull other e → IsHomeBox hull → IsHomeBox other → All (IsInBox hull) ps → All (IsInBox other) qs → IsBoxOf e hull other ps qs
+is_box_of e hull other ps qs way small also cells others = record {
+  corner = way.corner;
+  holds = way.holds;
+  hull_small = small.small;
+  other_small = also.small;
   cells = cells;
   others = others;
 }

@@ -10,8 +10,8 @@ ghost use Rattle.burr_blocking.specs.Views.Overlaps.{AreOverlapsOf, HasNoneAhead
 
 use crate::blocking::Blocking;
 use crate::extent::Extent;
+use crate::triangle::Triangle;
 use crate::triangle::translate::Pair;
-use crate::triangle::{Held, Triangle};
 use burr_assembly::Assembly;
 use burr_voxels::{Cell, Direction, meets, overlap_at};
 use std::alloc::{AllocError, Global};
@@ -21,45 +21,7 @@ use std::marker::Model;
 /// each displacement at which they may overlap. Pieces whose cells differ by a displacement alone
 /// share them. To build them takes time in the product of the two pieces' cells; `blocked` reads
 /// one value, `free` at most 31.
-#[derive(Debug, Drop)]
-pub struct CellTables<'a> {
-    tables: Triangle<'a, PairTable>,
-}
-
-impl<'a> CellTables<'a> {
-    /// The tables of an assembly's pieces.
-    pub fn build(alloc: Global, assembly: &'a Assembly) -> Result<CellTables<'a>, AllocError>
-        ensures { IfOk result (λ t.
-            ⟦<CellTables<'a> as Blocking>⟧.subject t ≡ assembly.entry.now) }
-    {
-        let tables = Triangle::build(alloc, Held::Lent(assembly))?;
-        Ok(CellTables { tables })
-    }
-}
-
-impl<'a> Blocking for CellTables<'a> {
-    ghost use Rattle.burr_blocking.specs.Views.Triangles.{IsPairIn};
-
-    ghost subject = { λ t. t.tables.assembly };
-
-    ghost IsPair = { λ t. IsPairIn t.tables };
-
-    fn assembly(&self) -> &Assembly {
-        self.tables.assembly()
-    }
-
-    fn pair(&self, piece: u8, other: u8) -> Pair {
-        self.tables.pair(piece, other)
-    }
-
-    fn pair_blocked(&self, pair: &Pair, displacement: Cell) -> bool {
-        self.tables.pair_blocked(pair, displacement)
-    }
-
-    fn pair_free(&self, pair: &Pair, displacement: Cell, direction: Direction) -> bool {
-        self.tables.pair_free(pair, displacement, direction)
-    }
-}
+pub type CellTables<'a> = Triangle<'a, PairTable>;
 
 /// For each displacement of a box whether one piece, so displaced against another one at home,
 /// overlaps it; the box holds all displacements at which it does.

@@ -20,7 +20,7 @@ pub struct Extent {
 }
 
 impl Extent {
-    ghost use Rattle.burr_blocking.specs.Views.Boxes.{AreOffsets, IsInBox, IsInRows, wide_of, deep_of, high_of, size_of, row_count_of, place_of, row_of, column_of};
+    ghost use Rattle.burr_blocking.specs.Views.Boxes.{AreDisplacements, AreOffsets, IsHomeBox, IsInBox, IsInRows, wide_of, deep_of, high_of, size_of, row_count_of, place_of, row_of, column_of};
 
     /// The least box round cells; no two of them differ by more than 15 in any coordinate. Where
     /// there are no cells, it is the box of the origin alone.
@@ -28,9 +28,7 @@ impl Extent {
         requires near { All (IsWithin 79) cells.now }
         requires small { DiameterAtMost 15 cells.now }
         ensures holds { All (IsInBox result) cells.now }
-        ensures near { IsWithin 79 result.least }
-        ensures far { IsWithin 79 result.greatest }
-        ensures small { AreCorners 15 result.least result.greatest }
+        ensures small { IsHomeBox result }
     {
         let first = first_of(cells);
         let mut least = first;
@@ -44,15 +42,9 @@ impl Extent {
 
     /// The box of the displacements from the cells of this box to those of another.
     pub fn displacements_to(self, other: Extent) -> Extent
-        requires near { IsWithin 79 self.least }
-        requires far { IsWithin 79 self.greatest }
-        requires other_near { IsWithin 79 other.least }
-        requires other_far { IsWithin 79 other.greatest }
-        requires small { AreCorners 15 self.least self.greatest }
-        requires other_small { AreCorners 15 other.least other.greatest }
-        ensures corner { result.least ≡ minus other.least self.greatest }
-        ensures holds { (from to : CellOf) → IsInBox self from → IsInBox other to
-            → IsInBox result (minus to from) }
+        requires small { IsHomeBox self }
+        requires other { IsHomeBox other }
+        ensures { AreDisplacements self other result }
     {
         let least = other.least - self.greatest;
         let greatest = other.greatest - self.least;
@@ -87,7 +79,7 @@ impl Extent {
     pub fn size(self) -> usize
         ensures { result ≡ size_of self }
     {
-        self.wide() * (self.deep() * self.high())
+        self.wide() * self.row_count()
     }
 
     /// Whether a displacement lies in the box.
@@ -142,21 +134,9 @@ impl Extent {
         ensures bound { result < row_count_of self }
         ensures few { result ≤ 960 }
     {
-        let (y, z) = self.row_offsets(displacement);
-        z * self.deep() + y
-    }
-
-    /// How far the row of a displacement lies from the least corner, along y and z.
-    fn row_offsets(self, displacement: Cell) -> (usize, usize)
-        requires { IsInRows self displacement }
-        ensures y { result.0 ≡ int_gap self.least.y displacement.y }
-        ensures z { result.1 ≡ int_gap self.least.z displacement.z }
-        ensures y_bound { result.0 < deep_of self }
-        ensures z_bound { result.1 < high_of self }
-    {
         let y = gap(self.least.y, displacement.y);
         let z = gap(self.least.z, displacement.z);
-        (y, z)
+        z * self.deep() + y
     }
 
     /// How far a displacement of the box lies after the first one of its row, 0 to 30.
@@ -184,24 +164,7 @@ impl Extent {
         ensures value { result ≡ place_of self displacement }
         ensures bound { result < size_of self }
     {
-        let (x, y, z) = self.offsets(displacement);
-        (z * self.deep() + y) * self.wide() + x
-    }
-
-    /// How far a displacement of the box lies from the least corner, along x, y and z.
-    fn offsets(self, displacement: Cell) -> (usize, usize, usize)
-        requires { IsInBox self displacement }
-        ensures x { result.0 ≡ int_gap self.least.x displacement.x }
-        ensures y { result.1 ≡ int_gap self.least.y displacement.y }
-        ensures z { result.2 ≡ int_gap self.least.z displacement.z }
-        ensures x_bound { result.0 < wide_of self }
-        ensures y_bound { result.1 < deep_of self }
-        ensures z_bound { result.2 < high_of self }
-    {
-        let x = gap(self.least.x, displacement.x);
-        let y = gap(self.least.y, displacement.y);
-        let z = gap(self.least.z, displacement.z);
-        (x, y, z)
+        self.row(displacement) * self.wide() + self.column(displacement) as usize
     }
 
     /// How far a displacement lies from the least corner, along x, y and z; 1,000 or more along an
@@ -264,10 +227,7 @@ pub fn first_of(cells: &[Cell]) -> Cell
     ensures first { 0 < length cells.now → Contains cells.now result }
     ensures near { IsWithin 79 result }
 {
-    match cells.first() {
-        Some(cell) => *cell,
-        None => Cell::ORIGIN,
-    }
+    cells.first().copied().unwrap_or(Cell::ORIGIN)
 }
 
 /// How far a number lies above another one.

@@ -9,12 +9,9 @@ ghost use Rattle.burr_blocking.specs.Views.Boxes.{IsInBox, wide_of, deep_of, hig
 ghost use Rattle.burr_blocking.specs.Views.Overlaps.{HasNoneAhead};
 ghost use Rattle.burr_blocking.specs.Views.PairBits.{AreBitsFrom, AreShort, HasBitIn, IsInRowOf, IsSet};
 
-use crate::blocking::Blocking;
 use crate::cell_tables::PairAnswers;
 use crate::extent::Extent;
-use crate::triangle::translate::Pair;
-use crate::triangle::{Held, Triangle};
-use burr_assembly::Assembly;
+use crate::triangle::Triangle;
 use burr_voxels::{Cell, Direction};
 use std::alloc::{AllocError, Global};
 use std::simd::prelude::*;
@@ -24,54 +21,7 @@ use std::simd::prelude::*;
 /// alone share them. To build them takes time in the product of the one piece's cells and the
 /// other's rows, an eighth each; `blocked` reads one bit, `free` one row along x, and at most 31
 /// rows along y and z.
-#[derive(Debug, Drop)]
-pub struct RowTables<'a> {
-    tables: Triangle<'a, PairRows>,
-}
-
-impl<'a> RowTables<'a> {
-    /// The rows of an assembly's pieces.
-    pub fn build(alloc: Global, assembly: &'a Assembly) -> Result<RowTables<'a>, AllocError>
-        ensures { IfOk result (λ t.
-            ⟦<RowTables<'a> as Blocking>⟧.subject t ≡ assembly.entry.now) }
-    {
-        let tables = Triangle::build(alloc, Held::Lent(assembly))?;
-        Ok(RowTables { tables })
-    }
-
-    /// The rows of the pieces of an assembly, which they keep.
-    pub fn owning(alloc: Global, assembly: Assembly) -> Result<RowTables<'static>, AllocError>
-        ensures { IfOk result (λ t.
-            ⟦<RowTables<'static> as Blocking>⟧.subject t ≡ assembly) }
-    {
-        let tables = Triangle::build(alloc, Held::Owned(assembly))?;
-        Ok(RowTables { tables })
-    }
-}
-
-impl<'a> Blocking for RowTables<'a> {
-    ghost use Rattle.burr_blocking.specs.Views.Triangles.{IsPairIn};
-
-    ghost subject = { λ t. t.tables.assembly };
-
-    ghost IsPair = { λ t. IsPairIn t.tables };
-
-    fn assembly(&self) -> &Assembly {
-        self.tables.assembly()
-    }
-
-    fn pair(&self, piece: u8, other: u8) -> Pair {
-        self.tables.pair(piece, other)
-    }
-
-    fn pair_blocked(&self, pair: &Pair, displacement: Cell) -> bool {
-        self.tables.pair_blocked(pair, displacement)
-    }
-
-    fn pair_free(&self, pair: &Pair, displacement: Cell, direction: Direction) -> bool {
-        self.tables.pair_free(pair, displacement, direction)
-    }
-}
+pub type RowTables<'a> = Triangle<'a, PairRows>;
 
 /// Whether a bit of a row is set.
 fn has_bit(row: u32, column: u32) -> bool
@@ -156,20 +106,6 @@ fn join_eight(rows: u32x8, others: u32x8, columns: u32, further: u32) -> u32x8
     rows | (others << u32x8::splat(columns)) | (others << u32x8::splat(further))
 }
 
-/// The number of the first row from one on that is not empty, and of the end where all are. A row
-/// that is not empty itself is not looked up, so that the next eight rows wait for no answer.
-fn following(rows: &[u32], next: &[usize], number: usize) -> usize
-    requires inside { number ≤ length rows.now }
-    requires count { length next.now ≡ length rows.now + 1 }
-    requires next { AreNext rows.now next.now }
-    ensures { IsNext rows.now number result }
-{
-    if number < rows.len() && rows[number] != 0 {
-        return number;
-    }
-    next[number]
-}
-
 /// Joins the rows from a first one on with others twice, shifted by `columns` columns and shifted
 /// by `further` columns: what `join_each` gives, but eight rows at a time, each time from the next
 /// row on that is not empty, which `next` tells.
@@ -191,32 +127,13 @@ fn join(rows: &mut [u32], first: usize, others: &[u32], next: &[usize], columns:
             further,
         );
         joined.copy_to_slice(&mut rows[first + i..]);
-        i = following(others, next, i + 8);
+        i += 8;
+        // a row that is not empty is not looked up, so that the next eight rows wait for no answer
+        if i >= count || others[i] == 0 {
+            i = next[i];
+        }
     }
     join_each(rows, first + i, &others[i..], columns, further);
-}
-
-/// A row's number where the row is not empty, else the number of a later one.
-fn nearer(row: u32, number: usize, later: usize) -> usize
-    ensures { (result ≡ number) ⊎ ((row ≡ 0) × (result ≡ later)) }
-{
-    if row == 0 { later } else { number }
-}
-
-/// For each row, and for the end of the rows, the first from there on that is not empty.
-fn find_next(next: &mut [usize], rows: &[u32])
-    requires count { length next.old ≡ length rows.now + 1 }
-    requires end { slice_index_or next.old (length rows.now) 0 ≡ length rows.now }
-    ensures { AreNext rows.now next.new }
-{
-    let count = rows.len();
-    let mut later = count;
-    let mut i = count;
-    while i > 0 {
-        i -= 1;
-        later = nearer(rows[i], i, later);
-        next[i] = later;
-    }
 }
 
 /// For each displacement of a box whether one piece, so displaced against another one at home,
@@ -273,11 +190,7 @@ impl PairAnswers for PairRows {
 
     fn blocked(&self, displacement: Cell) -> bool {
         let (x, y, z) = self.extent.units_from(displacement);
-        if self.holds(x, y, z) {
-            has_bit(self.rows[(z * self.deep + y) as usize], x)
-        } else {
-            false
-        }
+        self.holds(x, y, z) && has_bit(self.rows[(z * self.deep + y) as usize], x)
     }
 
     // a function of its own, so that `blocked` stays small where it is put into a loop over looks
@@ -397,13 +310,11 @@ fn last_in_row(cells: &[Cell], i: usize) -> usize
     ensures { IsInRowOf cells.now i result }
 {
     let next = i + 1;
-    if next >= cells.len() {
-        return i;
+    if next < cells.len() && cells[next].y == cells[i].y && cells[next].z == cells[i].z {
+        next
+    } else {
+        i
     }
-    if cells[next].y != cells[i].y || cells[next].z != cells[i].z {
-        return i;
-    }
-    next
 }
 
 /// For each row, and for the end of the rows, the first from there on that is not empty.
@@ -413,6 +324,8 @@ fn next_rows(alloc: Global, rows: &[u32]) -> Result<Vec<usize>, AllocError>
 {
     let count = rows.len();
     let mut next = Vec::from_elem(alloc, count, count + 1)?;
-    find_next(&mut next, rows);
+    for i in (0..count).rev() {
+        next[i] = if rows[i] == 0 { next[i + 1] } else { i };
+    }
     Ok(next)
 }

@@ -6,7 +6,7 @@ ghost use Rattle.burr_voxels.specs.Near.{IsWithin};
 ghost use Rattle.burr_assembly.specs.Rules.Text.{IsAssembly};
 ghost use Rattle.burr_assembly.specs.Rules.Homes.{homes_of, DiameterAtMost};
 ghost use Rattle.burr_blocking.specs.Views.Classes.{AreClasses};
-ghost use Rattle.burr_blocking.specs.Views.Triangles.{AreFirstPairs, held};
+ghost use Rattle.burr_blocking.specs.Views.Triangles.{AreClassPairs, AreFirstPairs, held};
 ghost use Rattle.burr_blocking.specs.declared.triangle.translate.Translate.{Translate as TranslateOf};
 
 use crate::blocking::Blocking;
@@ -25,7 +25,7 @@ use std::marker::Model;
 pub struct Triangle<'a, P: PairAnswers> {
     assembly: Held<'a>,
     classes: Classes,
-    pairs: Vec<ClassPairs<P>>,
+    pairs: Vec<Vec<P>>,
     /// For each piece a row with the pairs of its class and those of all pieces, found once: a query
     /// reads them.
     rows: Vec<Vec<Pair>>,
@@ -45,8 +45,24 @@ impl<'a, P: PairAnswers> Model for Triangle<'a, P> {
 }
 
 impl<'a, P: PairAnswers> Triangle<'a, P> {
-    /// The pairs of the classes of an assembly's pieces.
-    pub fn build(alloc: Global, assembly: Held<'a>) -> Result<Triangle<'a, P>, AllocError>
+    /// The tables of an assembly's pieces.
+    pub fn build(alloc: Global, assembly: &'a Assembly) -> Result<Triangle<'a, P>, AllocError>
+        ensures { IfOk result (λ t.
+            ⟦<Triangle<'a, P> as Blocking>⟧.subject t ≡ assembly.entry.now) }
+    {
+        Triangle::holding(alloc, Held::Lent(assembly))
+    }
+
+    /// The tables of the pieces of an assembly, which they keep.
+    pub fn owning(alloc: Global, assembly: Assembly) -> Result<Triangle<'static, P>, AllocError>
+        ensures { IfOk result (λ t.
+            ⟦<Triangle<'static, P> as Blocking>⟧.subject t ≡ assembly) }
+    {
+        Triangle::holding(alloc, Held::Owned(assembly))
+    }
+
+    /// The tables of the pieces of an assembly that is lent or owned.
+    fn holding(alloc: Global, assembly: Held<'a>) -> Result<Triangle<'a, P>, AllocError>
         ensures { IfOk result (λ t. t.assembly ≡ held assembly.entry) }
     {
         let classes = Classes::build(alloc, assembly.lent())?;
@@ -77,15 +93,11 @@ impl<'a, P: PairAnswers> Blocking for Triangle<'a, P> {
     }
 
     fn pair_blocked(&self, pair: &Pair, displacement: Cell) -> bool {
-        self.pairs[pair.later]
-            .pair(pair.earlier)
-            .blocked(pair.way(displacement))
+        self.pairs[pair.later][pair.earlier].blocked(pair.way(displacement))
     }
 
     fn pair_free(&self, pair: &Pair, displacement: Cell, direction: Direction) -> bool {
-        self.pairs[pair.later]
-            .pair(pair.earlier)
-            .free(pair.way(displacement), pair.direction(direction))
+        self.pairs[pair.later][pair.earlier].free(pair.way(displacement), pair.direction(direction))
     }
 }
 
@@ -113,61 +125,41 @@ fn pairs_of<P: PairAnswers>(
     alloc: Global,
     assembly: &Assembly,
     classes: &Classes,
-) -> Result<Vec<ClassPairs<P>>, AllocError>
+) -> Result<Vec<Vec<P>>, AllocError>
     requires assembly { IsAssembly assembly.now }
     requires classes { AreClasses (homes_of assembly.now) classes.now }
     ensures count { IfOk result (λ v. vec_len v ≡ length classes.now.representatives.items) }
     ensures each { IfOk result (λ v.
         AreFirstPairs P.Overlaps (homes_of assembly.now) classes.now v.items) }
 {
-    let count = classes.count();
+    let count = classes.representatives.len();
     let mut pairs = Vec::with_capacity(alloc, count)?;
     for later in 0..count {
-        pairs.push(ClassPairs::build(alloc, assembly, classes, later)?)?;
+        pairs.push(pairs_of_class(alloc, assembly, classes, later)?)?;
     }
     Ok(pairs)
 }
 
 /// The pairs of a class: for each class before it, that one's representative against its own, and
 /// its own against itself where it has two pieces.
-#[derive(Debug, Drop)]
-pub struct ClassPairs<P> {
-    pairs: Vec<P>,
-}
-
-impl<P: PairAnswers> ClassPairs<P> {
-    ghost use Rattle.burr_blocking.specs.Views.Classes.{AreClasses};
-    ghost use Rattle.burr_blocking.specs.Views.Triangles.{AreClassPairs};
-
-    /// The pairs of one of the classes of an assembly's pieces.
-    pub fn build(
-        alloc: Global,
-        assembly: &Assembly,
-        classes: &Classes,
-        later: usize,
-    ) -> Result<ClassPairs<P>, AllocError>
-        requires assembly { IsAssembly assembly.now }
-        requires classes { AreClasses (homes_of assembly.now) classes.now }
-        requires class { later < length classes.now.representatives.items }
-        ensures { IfOk result
-            (AreClassPairs P.Overlaps (homes_of assembly.now) classes.now later) }
-    {
-        let others = classes.cells(assembly, later);
-        let count = classes.pair_count(later);
-        let mut pairs = Vec::with_capacity(alloc, count)?;
-        for earlier in 0..count {
-            pairs.push(P::build(alloc, classes.cells(assembly, earlier), others)?)?;
-        }
-        Ok(ClassPairs { pairs })
+fn pairs_of_class<P: PairAnswers>(
+    alloc: Global,
+    assembly: &Assembly,
+    classes: &Classes,
+    later: usize,
+) -> Result<Vec<P>, AllocError>
+    requires assembly { IsAssembly assembly.now }
+    requires classes { AreClasses (homes_of assembly.now) classes.now }
+    requires class { later < length classes.now.representatives.items }
+    ensures { IfOk result (AreClassPairs P.Overlaps (homes_of assembly.now) classes.now later) }
+{
+    let others = classes.cells(assembly, later);
+    let count = later + usize::from(classes.has_several(later));
+    let mut pairs = Vec::with_capacity(alloc, count)?;
+    for earlier in 0..count {
+        pairs.push(P::build(alloc, classes.cells(assembly, earlier), others)?)?;
     }
-
-    /// The pair with another class, one that is kept.
-    pub fn pair(&self, earlier: usize) -> &P
-        requires { earlier < length self.now.pairs.items }
-        ensures { result.now ≡ slice_index_or self.now.pairs.items earlier result.now }
-    {
-        &self.pairs[earlier]
-    }
+    Ok(pairs)
 }
 
 /// The pieces of an assembly in classes: two are of one class where their cells differ by a
@@ -200,38 +192,24 @@ impl Classes {
     }
 
     /// These classes with one more piece.
-    fn with_piece(self, assembly: &Assembly, piece: u8) -> Result<Classes, AllocError>
+    fn with_piece(mut self, assembly: &Assembly, piece: u8) -> Result<Classes, AllocError>
         requires assembly { IsAssembly assembly.now }
         requires piece { piece < length assembly.now.pieces }
         requires classes { AreFirstClasses (homes_of assembly.now) piece self }
         ensures { IfOk result (AreFirstClasses (homes_of assembly.now) (piece + 1)) }
     {
-        match self.find(assembly, assembly.cells(piece)) {
-            Some(translate) => self.with_translate(translate),
+        let translate = match self.find(assembly, assembly.cells(piece)) {
+            Some(translate) => translate,
             None => {
-                let itself = Translate::itself(self.count());
-                self.with_representative(piece)?.with_translate(itself)
+                let class = self.representatives.len();
+                self.representatives.push(piece)?;
+                Translate {
+                    class,
+                    displacement: Cell::ORIGIN,
+                }
             }
-        }
-    }
-
-    /// These classes with one more piece in one of them.
-    fn with_translate(mut self, translate: Translate) -> Result<Classes, AllocError>
-        ensures { IfOk result (λ c.
-            (c.representatives.items ≡ self.representatives.items)
-            × (c.translates.items ≡ self.translates.items ++ translate ∷ [])) }
-    {
+        };
         self.translates.push(translate)?;
-        Ok(self)
-    }
-
-    /// These classes with one more, which a piece represents.
-    fn with_representative(mut self, piece: u8) -> Result<Classes, AllocError>
-        ensures { IfOk result (λ c.
-            (c.representatives.items ≡ self.representatives.items ++ piece ∷ [])
-            × (c.translates.items ≡ self.translates.items)) }
-    {
-        self.representatives.push(piece)?;
         Ok(self)
     }
 
@@ -259,13 +237,6 @@ impl Classes {
             }
         }
         None
-    }
-
-    /// How many classes there are.
-    pub fn count(&self) -> usize
-        ensures { result ≡ length self.now.representatives.items }
-    {
-        self.representatives.len()
     }
 
     /// The home cells of the representative of a class.
@@ -334,41 +305,18 @@ impl Classes {
         }
     }
 
-    /// How many pairs are kept of a class: with each class before it, and with itself where it has
-    /// several pieces.
-    pub fn pair_count(&self, class: usize) -> usize
-        requires { class < length self.now.representatives.items }
-        ensures { IsPairCount self.now class result }
-    {
-        if self.has_several(class) {
-            class + 1
-        } else {
-            class
-        }
-    }
-
     /// Whether a class has another piece than its representative.
     fn has_several(&self, class: usize) -> bool
         requires { class < length self.now.representatives.items }
         ensures { IsTrue result ↔ HasSeveral self.now class }
     {
         for piece in 0..self.translates.len() {
-            if self.is_another(class, piece) {
+            if piece != usize::from(self.representatives[class])
+                && self.translates[piece].class == class
+            {
                 return true;
             }
         }
         false
-    }
-
-    /// Whether a piece is of a class, and another than its representative.
-    fn is_another(&self, class: usize, piece: usize) -> bool
-        requires class { class < length self.now.representatives.items }
-        requires piece { piece < length self.now.translates.items }
-        ensures { IsTrue result ↔ IsAnother self.now class piece }
-    {
-        if piece == usize::from(self.representatives[class]) {
-            return false;
-        }
-        self.translates[piece].class == class
     }
 }

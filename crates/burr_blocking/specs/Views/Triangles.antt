@@ -12,7 +12,6 @@ use Rattle.burr_blocking.specs.declared.triangle.Held.{Held}
 use Rattle.burr_blocking.specs.declared.triangle.Held.TheVariants.{Lent, Owned}
 use Rattle.burr_blocking.specs.declared.triangle.translate.Translate.{Translate}
 use Rattle.burr_blocking.specs.declared.triangle.Classes.{Classes}
-use Rattle.burr_blocking.specs.declared.triangle.ClassPairs.{ClassPairs}
 use Rattle.burr_blocking.specs.Views.Classes.{AreClasses, IsPairCount}
 use Rattle.burr_blocking.specs.Views.Overlaps.{AreOverlapsOf}
 use Rattle.burr_blocking.specs.Views.Translates.{representative_at}
@@ -30,17 +29,17 @@ module _ {P : Type 0} (Overlaps : P → Cell → Type 0) where
 
   -- the pairs of a class
   pub record AreClassPairs (homes : List (List Cell)) (classes : Classes) (b : ℕ)
-      (kept : ClassPairs P) : Type 0 where
-    pub count : IsPairCount classes b (length kept.pairs.items)
-    pub pairs : ArePairsOf homes classes.representatives.items b kept.pairs.items
+      (kept : Vec P Global) : Type 0 where
+    pub count : IsPairCount classes b (length kept.items)
+    pub pairs : ArePairsOf homes classes.representatives.items b kept.items
 
   -- the pairs of the first classes
-  abbrev pub AreFirstPairs : List (List Cell) → Classes → List (ClassPairs P) → Type 0
-  AreFirstPairs homes classes kept = (b : ℕ) (d : ClassPairs P) → b < length kept
+  abbrev pub AreFirstPairs : List (List Cell) → Classes → List (Vec P Global) → Type 0
+  AreFirstPairs homes classes kept = (b : ℕ) (d : Vec P Global) → b < length kept
       → AreClassPairs homes classes b (slice_index_or kept b d)
 
   -- the pairs of all classes
-  pub record IsTriangle (homes : List (List Cell)) (classes : Classes) (kept : List (ClassPairs P))
+  pub record IsTriangle (homes : List (List Cell)) (classes : Classes) (kept : List (Vec P Global))
       : Type 0 where
     pub pieces : AreClasses homes classes
     pub count : length kept ≡ length classes.representatives.items

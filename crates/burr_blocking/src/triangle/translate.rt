@@ -1,7 +1,6 @@
 ghost use Rattle.std.specs.Prelude.{◌≡◌, ◌⊎◌, ◌≤ℤ◌, ◌*ℤ◌, IfSome, MatchOption, neg_ℤ, pos};
 ghost use Rattle.std.specs.List.{All};
 ghost use Rattle.burr_voxels.specs.declared.cell.Cell.{Cell as CellOf};
-ghost use Rattle.burr_voxels.specs.Grid.{origin};
 ghost use Rattle.burr_voxels.specs.Near.{IsWithin};
 ghost use Rattle.burr_blocking.specs.Views.Translates.{IsTranslate, sign_of};
 
@@ -15,19 +14,6 @@ pub struct Translate {
     pub class: usize,
     pub displacement: Cell,
     ghost near: { IsWithin 158 displacement },
-}
-
-impl Translate {
-    /// The representative of a class, which is displaced by nothing.
-    pub fn itself(class: usize) -> Translate
-        ensures class { result.class ≡ class }
-        ensures displacement { result.displacement ≡ origin }
-    {
-        Translate {
-            class,
-            displacement: Cell::ORIGIN,
-        }
-    }
 }
 
 /// What is found once of two pieces, so that queries of them are answered at once: the numbers under

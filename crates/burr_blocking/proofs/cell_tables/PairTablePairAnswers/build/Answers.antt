@@ -22,12 +22,12 @@ places_from-requires-clause-inside c =
     let other = c.around-other_hull.result in
     let ps = c.args.cells.now in
     let qs = c.args.others.now in
-    let box = is_box_of e hull other ps qs c.displacements_to-extent.ensures.corner c.displacements_to-extent.ensures.holds c.around-hull.ensures.small c.around-other_hull.ensures.small c.around-hull.ensures.holds c.around-other_hull.ensures.holds in
+    let box = is_box_of e hull other ps qs c.displacements_to-extent.ensures c.around-hull.ensures.small c.around-other_hull.ensures.small c.around-hull.ensures.holds c.around-other_hull.ensures.holds in
     box_reach e hull other ps qs box
 
 pub sub-requires : goal.sub-requires
 sub-requires c =
-    fits_minus c.around-other_hull.result.least (get_or c.args.cells.now c.loop-cell.cell-index origin) c.around-other_hull.ensures.near (All-get_or (IsWithin 79) c.args.cells.now c.loop-cell.cell-index origin (omega arith) c.requires.near)
+    fits_minus c.around-other_hull.result.least (get_or c.args.cells.now c.loop-cell.cell-index origin) c.around-other_hull.ensures.small.near (All-get_or (IsWithin 79) c.args.cells.now c.loop-cell.cell-index origin (omega arith) c.requires.near)
 
 pub place-requires : goal.place-requires
 place-requires c =
@@ -36,7 +36,7 @@ place-requires c =
     let other = c.around-other_hull.result in
     let ps = c.args.cells.now in
     let qs = c.args.others.now in
-    let box = is_box_of e hull other ps qs c.displacements_to-extent.ensures.corner c.displacements_to-extent.ensures.holds c.around-hull.ensures.small c.around-other_hull.ensures.small c.around-hull.ensures.holds c.around-other_hull.ensures.holds in
+    let box = is_box_of e hull other ps qs c.displacements_to-extent.ensures c.around-hull.ensures.small c.around-other_hull.ensures.small c.around-hull.ensures.holds c.around-other_hull.ensures.holds in
     subst (IsInBox e) (sym c.sub.ensures) (box_low e hull other ps qs c.loop-cell.cell-index origin box (omega arith))
 
 pub mark-requires : goal.mark-requires
@@ -46,7 +46,7 @@ mark-requires c =
     let other = c.around-other_hull.result in
     let ps = c.args.cells.now in
     let qs = c.args.others.now in
-    let box = is_box_of e hull other ps qs c.displacements_to-extent.ensures.corner c.displacements_to-extent.ensures.holds c.around-hull.ensures.small c.around-other_hull.ensures.small c.around-hull.ensures.holds c.around-other_hull.ensures.holds in
+    let box = is_box_of e hull other ps qs c.displacements_to-extent.ensures c.around-hull.ensures.small c.around-other_hull.ensures.small c.around-hull.ensures.holds c.around-other_hull.ensures.holds in
     let first = c.place.ensures.value ∙ ap (place_of e) c.sub.ensures in
     let room = box_room e hull other ps qs c.loop-cell.cell-index c.place.result origin c.deref.result.now box (omega arith) first (c.deref.ensures.value ∙ c.in_ok-places.ensures) in
     let size : length c.deref_mut.result.now ≡ size_of e = ap length c.deref_mut.ensures.value ∙ c.loop-cell.invariant.size in
@@ -59,7 +59,7 @@ loop-cell-preserved c =
     let other = c.around-other_hull.result in
     let ps = c.args.cells.now in
     let qs = c.args.others.now in
-    let box = is_box_of e hull other ps qs c.displacements_to-extent.ensures.corner c.displacements_to-extent.ensures.holds c.around-hull.ensures.small c.around-other_hull.ensures.small c.around-hull.ensures.holds c.around-other_hull.ensures.holds in
+    let box = is_box_of e hull other ps qs c.displacements_to-extent.ensures c.around-hull.ensures.small c.around-other_hull.ensures.small c.around-hull.ensures.holds c.around-other_hull.ensures.holds in
     let old = c.loop-cell.marks.items in
     let new = c.mark.new.marks in
     let i = c.loop-cell.cell-index in

@@ -1,37 +1,53 @@
-use Rattle.std.proofs.Common.{ℕ, ◌≤◌, ◌<◌, ◌+◌, ◌*◌, arith}
-use Rattle.std.proofs.lemmas.Nat.{mul-le, mul-add-lt}
-use Rattle.burr_blocking.specs.Views.Boxes.{deep_of, high_of}
-use Rattle.burr_blocking.proofs.Reaches.{gap_few}
+use Rattle.std.proofs.Common.{◌≡◌, ◌+◌, ◌*◌, ℕ, rules, to_z-of_z, w32, FitsSigned, refl, arith}
+use Rattle.std.specs.Int.{int_gap}
+use Rattle.burr_voxels.specs.declared.cell.Cell.{Cell}
+use Rattle.burr_blocking.specs.declared.extent.Extent.{Extent}
+use Rattle.burr_blocking.specs.Views.Boxes.{deep_of, row_of}
+use Rattle.burr_blocking.proofs.Made.{row_lt, row_few}
 use Rattle.burr_blocking.proofs.extent.Extent.row.Goals as goal
 
--- what lies before a layer of at most 31 rows
-layer_few : (z deep high : ℕ) → z < high → deep ≤ 31 → high ≤ 31 → z * deep ≤ 930
-layer_few z deep high in_high few_deep few_high = mul-le z deep 30 31 (omega arith) few_deep
+-- the gaps make the row
+is_row : (e : Extent) (d : Cell) (y z deep : ℕ) → y ≡ int_gap e.least.y d.y → z ≡ int_gap e.least.z d.z → deep ≡ deep_of e → z * deep + y ≡ row_of e d
+is_row e d y z deep y_is z_is deep_is = rw (y_is, z_is, deep_is) refl
 
--- a row of at most 31 layers of at most 31 rows
-row_few : (y z deep high : ℕ) → y < deep → z < high → deep ≤ 31 → high ≤ 31 → z * deep + y ≤ 960
-row_few y z deep high in_deep in_high few_deep few_high =
-    omega (arith, mul-add-lt z deep y high in_high in_deep, mul-le deep high 31 31 few_deep few_high)
+pub returns-clause-value : goal.returns-clause-value
+returns-clause-value c =
+    let least_y : FitsSigned w32 c.args.self.least.y = search rules in
+    let least_z : FitsSigned w32 c.args.self.least.z = search rules in
+    let y : FitsSigned w32 c.args.displacement.y = search rules in
+    let z : FitsSigned w32 c.args.displacement.z = search rules in
+    is_row c.args.self c.args.displacement c.gap-y.result c.gap-z.result c.deep.result (simp to_z-of_z at c.gap-y.ensures) (simp to_z-of_z at c.gap-z.ensures) c.deep.ensures.count
 
 pub overflow_mul-result : goal.overflow_mul-result
 overflow_mul-result c =
-    let e = c.args.self in
-    omega (arith, layer_few c.row_offsets-y.result.1 c.deep.result (high_of e) c.row_offsets-y.ensures.z_bound c.deep.ensures.few (gap_few e.least.z e.greatest.z 30 e.small.z_rises e.small.z_near))
+    let least_y : FitsSigned w32 c.args.self.least.y = search rules in
+    let least_z : FitsSigned w32 c.args.self.least.z = search rules in
+    let y : FitsSigned w32 c.args.displacement.y = search rules in
+    let z : FitsSigned w32 c.args.displacement.z = search rules in
+    omega (arith, row_few c.args.self c.args.displacement c.requires, is_row c.args.self c.args.displacement c.gap-y.result c.gap-z.result c.deep.result (simp to_z-of_z at c.gap-y.ensures) (simp to_z-of_z at c.gap-z.ensures) c.deep.ensures.count)
 
 pub overflow_add-result : goal.overflow_add-result
 overflow_add-result c =
-    let e = c.args.self in
-    let y = rw (← c.deep.ensures.count) at c.row_offsets-y.ensures.y_bound in
-    omega (arith, row_few c.row_offsets-y.result.0 c.row_offsets-y.result.1 c.deep.result (high_of e) y c.row_offsets-y.ensures.z_bound c.deep.ensures.few (gap_few e.least.z e.greatest.z 30 e.small.z_rises e.small.z_near))
+    let least_y : FitsSigned w32 c.args.self.least.y = search rules in
+    let least_z : FitsSigned w32 c.args.self.least.z = search rules in
+    let y : FitsSigned w32 c.args.displacement.y = search rules in
+    let z : FitsSigned w32 c.args.displacement.z = search rules in
+    omega (arith, row_few c.args.self c.args.displacement c.requires, is_row c.args.self c.args.displacement c.gap-y.result c.gap-z.result c.deep.result (simp to_z-of_z at c.gap-y.ensures) (simp to_z-of_z at c.gap-z.ensures) c.deep.ensures.count)
 
 pub returns-clause-bound : goal.returns-clause-bound
 returns-clause-bound c =
-    let e = c.args.self in
-    rw c.deep.ensures.count
-    (mul-add-lt c.row_offsets-y.result.1 (deep_of e) c.row_offsets-y.result.0 (high_of e) c.row_offsets-y.ensures.z_bound c.row_offsets-y.ensures.y_bound)
+    let least_y : FitsSigned w32 c.args.self.least.y = search rules in
+    let least_z : FitsSigned w32 c.args.self.least.z = search rules in
+    let y : FitsSigned w32 c.args.displacement.y = search rules in
+    let z : FitsSigned w32 c.args.displacement.z = search rules in
+    rw (is_row c.args.self c.args.displacement c.gap-y.result c.gap-z.result c.deep.result (simp to_z-of_z at c.gap-y.ensures) (simp to_z-of_z at c.gap-z.ensures) c.deep.ensures.count)
+    (row_lt c.args.self c.args.displacement c.requires)
 
 pub returns-clause-few : goal.returns-clause-few
 returns-clause-few c =
-    let e = c.args.self in
-    let y = rw (← c.deep.ensures.count) at c.row_offsets-y.ensures.y_bound in
-    row_few c.row_offsets-y.result.0 c.row_offsets-y.result.1 c.deep.result (high_of e) y c.row_offsets-y.ensures.z_bound c.deep.ensures.few (gap_few e.least.z e.greatest.z 30 e.small.z_rises e.small.z_near)
+    let least_y : FitsSigned w32 c.args.self.least.y = search rules in
+    let least_z : FitsSigned w32 c.args.self.least.z = search rules in
+    let y : FitsSigned w32 c.args.displacement.y = search rules in
+    let z : FitsSigned w32 c.args.displacement.z = search rules in
+    rw (is_row c.args.self c.args.displacement c.gap-y.result c.gap-z.result c.deep.result (simp to_z-of_z at c.gap-y.ensures) (simp to_z-of_z at c.gap-z.ensures) c.deep.ensures.count)
+    (row_few c.args.self c.args.displacement c.requires)

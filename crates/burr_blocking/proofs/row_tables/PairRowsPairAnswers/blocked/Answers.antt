@@ -32,4 +32,4 @@ returns-then-holds c =
 pub returns-else-holds : goal.returns-else-holds
 returns-else-holds c =
     let at = c.units_from-x.result in
-    none_set c.args.self.now c.args.displacement at.0 at.1 at.2 c.units_from-x.ensures (no_of (rw c.if-holds.false at c.holds.ensures))
+    rw c.if-holds.false (none_set c.args.self.now c.args.displacement at.0 at.1 at.2 c.units_from-x.ensures (no_of (rw c.if-holds.false at c.holds.ensures)))

@@ -10,7 +10,7 @@ use Rattle.burr_blocking.proofs.Made.{AreMade, made_both, made_all, made_rows, m
 use Rattle.burr_blocking.proofs.row_tables.PairRowsPairAnswers.build.Goals as goal
 
 pub sub-requires : goal.sub-requires
-sub-requires c = fits_minus c.around-other_hull.result.greatest c.around-hull.result.greatest c.around-other_hull.ensures.far c.around-hull.ensures.far
+sub-requires c = fits_minus c.around-other_hull.result.greatest c.around-hull.result.greatest c.around-other_hull.ensures.small.far c.around-hull.ensures.small.far
 
 pub row-last-requires : goal.row-last-requires
 row-last-requires c =
@@ -19,7 +19,7 @@ row-last-requires c =
     let other = c.around-other_hull.result in
     let ps = c.args.cells.now in
     let qs = c.args.others.now in
-    let box = is_box_of e hull other ps qs c.displacements_to-extent.ensures.corner c.displacements_to-extent.ensures.holds c.around-hull.ensures.small c.around-other_hull.ensures.small c.around-hull.ensures.holds c.around-other_hull.ensures.holds in
+    let box = is_box_of e hull other ps qs c.displacements_to-extent.ensures c.around-hull.ensures.small c.around-other_hull.ensures.small c.around-hull.ensures.holds c.around-other_hull.ensures.holds in
     in_rows e c.sub.result (subst (IsInBox e) (sym c.sub.ensures) (box_last e hull other ps qs box))
 
 pub rows_from-requires-clause-inside : goal.rows_from-requires-clause-inside
@@ -29,7 +29,7 @@ rows_from-requires-clause-inside c =
     let other = c.around-other_hull.result in
     let ps = c.args.cells.now in
     let qs = c.args.others.now in
-    let box = is_box_of e hull other ps qs c.displacements_to-extent.ensures.corner c.displacements_to-extent.ensures.holds c.around-hull.ensures.small c.around-other_hull.ensures.small c.around-hull.ensures.holds c.around-other_hull.ensures.holds in
+    let box = is_box_of e hull other ps qs c.displacements_to-extent.ensures c.around-hull.ensures.small c.around-other_hull.ensures.small c.around-hull.ensures.holds c.around-other_hull.ensures.holds in
     box_reach e hull other ps qs box
 
 pub rows_from-requires-clause-rows : goal.rows_from-requires-clause-rows
@@ -39,17 +39,17 @@ rows_from-requires-clause-rows c =
     let other = c.around-other_hull.result in
     let ps = c.args.cells.now in
     let qs = c.args.others.now in
-    let box = is_box_of e hull other ps qs c.displacements_to-extent.ensures.corner c.displacements_to-extent.ensures.holds c.around-hull.ensures.small c.around-other_hull.ensures.small c.around-hull.ensures.holds c.around-other_hull.ensures.holds in
+    let box = is_box_of e hull other ps qs c.displacements_to-extent.ensures c.around-hull.ensures.small c.around-other_hull.ensures.small c.around-hull.ensures.holds c.around-other_hull.ensures.holds in
     let last : c.row-last.result ≡ row_of e (minus other.greatest hull.greatest) = c.row-last.ensures.value ∙ ap (row_of e) c.sub.ensures in
     box_rows e hull other ps qs c.row-last.result box last
 
 pub sub-low-requires : goal.sub-low-requires
 sub-low-requires c =
-    fits_minus c.around-other_hull.result.least (get_or c.args.cells.now c.loop-i.i origin) c.around-other_hull.ensures.near (All-get_or (IsWithin 79) c.args.cells.now c.loop-i.i origin (omega (arith, c.loop-i-test.true)) c.requires.near)
+    fits_minus c.around-other_hull.result.least (get_or c.args.cells.now c.loop-i.i origin) c.around-other_hull.ensures.small.near (All-get_or (IsWithin 79) c.args.cells.now c.loop-i.i origin (omega (arith, c.loop-i-test.true)) c.requires.near)
 
 pub sub-further-requires : goal.sub-further-requires
 sub-further-requires c =
-    fits_minus c.around-other_hull.result.least (get_or c.args.cells.now c.last_in_row-also.result origin) c.around-other_hull.ensures.near (All-get_or (IsWithin 79) c.args.cells.now c.last_in_row-also.result origin c.last_in_row-also.ensures.inside c.requires.near)
+    fits_minus c.around-other_hull.result.least (get_or c.args.cells.now c.last_in_row-also.result origin) c.around-other_hull.ensures.small.near (All-get_or (IsWithin 79) c.args.cells.now c.last_in_row-also.result origin c.last_in_row-also.ensures.inside c.requires.near)
 
 pub row-requires : goal.row-requires
 row-requires c =
@@ -58,7 +58,7 @@ row-requires c =
     let other = c.around-other_hull.result in
     let ps = c.args.cells.now in
     let qs = c.args.others.now in
-    let box = is_box_of e hull other ps qs c.displacements_to-extent.ensures.corner c.displacements_to-extent.ensures.holds c.around-hull.ensures.small c.around-other_hull.ensures.small c.around-hull.ensures.holds c.around-other_hull.ensures.holds in
+    let box = is_box_of e hull other ps qs c.displacements_to-extent.ensures c.around-hull.ensures.small c.around-other_hull.ensures.small c.around-hull.ensures.holds c.around-other_hull.ensures.holds in
     let low : IsInBox e c.sub-low.result = subst (IsInBox e) (sym c.sub-low.ensures) (box_low e hull other ps qs c.loop-i.i origin box (omega (arith, c.loop-i-test.true))) in
     in_rows e c.sub-low.result low
 
@@ -69,7 +69,7 @@ column-requires-clause-from c =
     let other = c.around-other_hull.result in
     let ps = c.args.cells.now in
     let qs = c.args.others.now in
-    let box = is_box_of e hull other ps qs c.displacements_to-extent.ensures.corner c.displacements_to-extent.ensures.holds c.around-hull.ensures.small c.around-other_hull.ensures.small c.around-hull.ensures.holds c.around-other_hull.ensures.holds in
+    let box = is_box_of e hull other ps qs c.displacements_to-extent.ensures c.around-hull.ensures.small c.around-other_hull.ensures.small c.around-hull.ensures.holds c.around-other_hull.ensures.holds in
     let low : IsInBox e c.sub-low.result = subst (IsInBox e) (sym c.sub-low.ensures) (box_low e hull other ps qs c.loop-i.i origin box (omega (arith, c.loop-i-test.true))) in
     low.x_from
 
@@ -80,7 +80,7 @@ column-requires-clause-to c =
     let other = c.around-other_hull.result in
     let ps = c.args.cells.now in
     let qs = c.args.others.now in
-    let box = is_box_of e hull other ps qs c.displacements_to-extent.ensures.corner c.displacements_to-extent.ensures.holds c.around-hull.ensures.small c.around-other_hull.ensures.small c.around-hull.ensures.holds c.around-other_hull.ensures.holds in
+    let box = is_box_of e hull other ps qs c.displacements_to-extent.ensures c.around-hull.ensures.small c.around-other_hull.ensures.small c.around-hull.ensures.holds c.around-other_hull.ensures.holds in
     let low : IsInBox e c.sub-low.result = subst (IsInBox e) (sym c.sub-low.ensures) (box_low e hull other ps qs c.loop-i.i origin box (omega (arith, c.loop-i-test.true))) in
     low.x_to
 
@@ -91,7 +91,7 @@ column-requires-in-loop-i-clause-from c =
     let other = c.around-other_hull.result in
     let ps = c.args.cells.now in
     let qs = c.args.others.now in
-    let box = is_box_of e hull other ps qs c.displacements_to-extent.ensures.corner c.displacements_to-extent.ensures.holds c.around-hull.ensures.small c.around-other_hull.ensures.small c.around-hull.ensures.holds c.around-other_hull.ensures.holds in
+    let box = is_box_of e hull other ps qs c.displacements_to-extent.ensures c.around-hull.ensures.small c.around-other_hull.ensures.small c.around-hull.ensures.holds c.around-other_hull.ensures.holds in
     let also : IsInBox e c.sub-further.result = subst (IsInBox e) (sym c.sub-further.ensures) (box_low e hull other ps qs c.last_in_row-also.result origin box c.last_in_row-also.ensures.inside) in
     also.x_from
 
@@ -102,7 +102,7 @@ column-requires-in-loop-i-clause-to c =
     let other = c.around-other_hull.result in
     let ps = c.args.cells.now in
     let qs = c.args.others.now in
-    let box = is_box_of e hull other ps qs c.displacements_to-extent.ensures.corner c.displacements_to-extent.ensures.holds c.around-hull.ensures.small c.around-other_hull.ensures.small c.around-hull.ensures.holds c.around-other_hull.ensures.holds in
+    let box = is_box_of e hull other ps qs c.displacements_to-extent.ensures c.around-hull.ensures.small c.around-other_hull.ensures.small c.around-hull.ensures.holds c.around-other_hull.ensures.holds in
     let also : IsInBox e c.sub-further.result = subst (IsInBox e) (sym c.sub-further.ensures) (box_low e hull other ps qs c.last_in_row-also.result origin box c.last_in_row-also.ensures.inside) in
     also.x_to
 
@@ -113,7 +113,7 @@ join-requires-clause-fits c =
     let other = c.around-other_hull.result in
     let ps = c.args.cells.now in
     let qs = c.args.others.now in
-    let box = is_box_of e hull other ps qs c.displacements_to-extent.ensures.corner c.displacements_to-extent.ensures.holds c.around-hull.ensures.small c.around-other_hull.ensures.small c.around-hull.ensures.holds c.around-other_hull.ensures.holds in
+    let box = is_box_of e hull other ps qs c.displacements_to-extent.ensures c.around-hull.ensures.small c.around-other_hull.ensures.small c.around-hull.ensures.holds c.around-other_hull.ensures.holds in
     let last : c.row-last.result ≡ row_of e (minus other.greatest hull.greatest) = c.row-last.ensures.value ∙ ap (row_of e) c.sub.ensures in
     let i = c.loop-i.i in
     let lt : i < length ps = omega (arith, c.loop-i-test.true) in
@@ -128,7 +128,7 @@ loop-i-preserved c =
     let other = c.around-other_hull.result in
     let ps = c.args.cells.now in
     let qs = c.args.others.now in
-    let box = is_box_of e hull other ps qs c.displacements_to-extent.ensures.corner c.displacements_to-extent.ensures.holds c.around-hull.ensures.small c.around-other_hull.ensures.small c.around-hull.ensures.holds c.around-other_hull.ensures.holds in
+    let box = is_box_of e hull other ps qs c.displacements_to-extent.ensures c.around-hull.ensures.small c.around-other_hull.ensures.small c.around-hull.ensures.holds c.around-other_hull.ensures.holds in
     let last : c.row-last.result ≡ row_of e (minus other.greatest hull.greatest) = c.row-last.ensures.value ∙ ap (row_of e) c.sub.ensures in
     let i = c.loop-i.i in
     let lt : i < length ps = omega (arith, c.loop-i-test.true) in
@@ -158,7 +158,7 @@ invariant_of-result c =
     let other = c.around-other_hull.result in
     let ps = c.args.cells.now in
     let qs = c.args.others.now in
-    let box = is_box_of e hull other ps qs c.displacements_to-extent.ensures.corner c.displacements_to-extent.ensures.holds c.around-hull.ensures.small c.around-other_hull.ensures.small c.around-hull.ensures.holds c.around-other_hull.ensures.holds in
+    let box = is_box_of e hull other ps qs c.displacements_to-extent.ensures c.around-hull.ensures.small c.around-other_hull.ensures.small c.around-hull.ensures.holds c.around-other_hull.ensures.holds in
     record {
       sides = (c.wide.ensures.count, c.deep.ensures.count, c.high.ensures.count);
       whole = c.loop-i.invariant.1;
@@ -172,7 +172,7 @@ returns c =
     let other = c.around-other_hull.result in
     let ps = c.args.cells.now in
     let qs = c.args.others.now in
-    let box = is_box_of e hull other ps qs c.displacements_to-extent.ensures.corner c.displacements_to-extent.ensures.holds c.around-hull.ensures.small c.around-other_hull.ensures.small c.around-hull.ensures.holds c.around-other_hull.ensures.holds in
+    let box = is_box_of e hull other ps qs c.displacements_to-extent.ensures c.around-hull.ensures.small c.around-other_hull.ensures.small c.around-hull.ensures.holds c.around-other_hull.ensures.holds in
     made_rows e hull other c.loop-i.rows.items ps qs box (made_all e c.loop-i.rows.items ps qs c.loop-i.i (omega (arith, c.loop-i-test.false)) c.loop-i.invariant.2)
 
 pub join-requires-clause-next : goal.join-requires-clause-next

@@ -1,21 +1,25 @@
-use Rattle.std.proofs.Common.{◌↔◌, IsTrue, subst, sym}
+use Rattle.std.proofs.Common.{◌↔◌, IsTrue, subst, sym, arith}
 use Rattle.burr_assembly.specs.Rules.Homes.{homes_of, home_at}
 use Rattle.burr_blocking.specs.Rules.Pairs.{IsFreeFrom}
 use Rattle.burr_blocking.specs.Views.Triangles.{ClassedAssembly, IsPairIn, held}
 use Rattle.burr_blocking.proofs.Answered.{pair_in_row, pair_free}
 use Rattle.burr_blocking.proofs.triangle.TriangleBlocking.pair_free.Goals as goal
 
-pub pair-requires : goal.pair-requires
-pair-requires g c =
-    pair_in_row g.P.PairAnswers.Overlaps (homes_of (held c.self.inside.assembly)) c.self.inside.classes c.self.inside.pairs.items
-    c.self.invariant.0 c.args.pair.now c.requires.known.0 c.requires.known.1 c.index.result.now c.index.ensures
-    (subst (λ (t : ClassedAssembly). IsPairIn t c.requires.known.0 c.requires.known.1 c.args.pair.now) (sym c.self.view_is) c.requires.known.2)
+pub index-requires-2 : goal.index-requires-2
+index-requires-2 g c =
+    omega (
+      arith,
+      c.index.result.now.ok.0,
+      pair_in_row g.P.PairAnswers.Overlaps (homes_of (held c.self.inside.assembly)) c.self.inside.classes c.self.inside.pairs.items
+          c.self.invariant.0 c.args.pair.now c.requires.known.0 c.requires.known.1 c.index.result.now c.index.ensures
+          (subst (λ (t : ClassedAssembly). IsPairIn t c.requires.known.0 c.requires.known.1 c.args.pair.now) (sym c.self.view_is) c.requires.known.2),
+    )
 
 pub returns : goal.returns
 returns g c = λ p q known.
     subst (λ (t : ClassedAssembly). IsTrue c.free.result ↔ IsFreeFrom (home_at (homes_of t.assembly) p) (home_at (homes_of t.assembly) q) c.args.displacement c.args.direction)
     c.self.view_is
     (pair_free g.P.PairAnswers.Overlaps (homes_of (held c.self.inside.assembly)) c.self.inside.classes c.self.inside.pairs.items
-    c.self.invariant.0 c.args.pair.now p q c.index.result.now c.index.ensures c.pair.result.now c.pair.ensures
+    c.self.invariant.0 c.args.pair.now p q c.index.result.now c.index.ensures c.index-2.result.now c.index-2.ensures
     c.args.displacement c.way.result c.way.ensures.value c.free.result c.args.direction c.direction.result c.direction.ensures c.free.ensures
     (subst (λ (t : ClassedAssembly). IsPairIn t p q c.args.pair.now) (sym c.self.view_is) known))

@@ -3,7 +3,7 @@ use Rattle.burr_assembly.specs.Rules.Homes.{homes_of}
 use Rattle.burr_blocking.specs.Views.Overlaps.{AreOverlapsOf}
 use Rattle.burr_blocking.specs.Views.Triangles.{IsPairOf, ArePairsOf}
 use Rattle.burr_blocking.proofs.Triangles.{one_pushed, pair_made}
-use Rattle.burr_blocking.proofs.triangle.ClassPairs.build.Goals as goal
+use Rattle.burr_blocking.proofs.triangle.pairs_of_class.Goals as goal
 
 pub loop-earlier-preserved : goal.loop-earlier-preserved
 loop-earlier-preserved g c =

@@ -1,7 +1,7 @@
 use Rattle.std.proofs.Common.{◌≡◌, vec_len}
 use Rattle.burr_assembly.specs.Rules.Homes.{homes_of}
 use Rattle.burr_blocking.specs.Views.Triangles.{ArePairsOf}
-use Rattle.burr_blocking.proofs.triangle.ClassPairs.build.Given as goal
+use Rattle.burr_blocking.proofs.triangle.pairs_of_class.Given as goal
 
 -- the pairs so far are those of the first classes
 abbrev pub invariant-loop-earlier : goal.invariant-loop-earlier
