@@ -2,8 +2,8 @@
 use Rattle.std.proofs.Common.{◌≡◌, ◌↔◌, ℕ, zero, suc, ◌+◌, ◌-◌, ◌*◌, ◌/◌, ◌%◌, ◌^◌, ◌<◌, ◌≤◌, min, max, Bool, List, [], ◌∷◌, length, refl, sym, ap, ◌∙◌, subst, arith, slice_index_or, slice_set, inl, inr}
 use Rattle.std.specs.Prelude.{◌⊎◌, ◌≢◌, bit_or, IsTrue}
 use Rattle.std.specs.Prelude.{ℤ, pos, ◌+ℤ◌, ◌≤ℤ◌}
-use Rattle.std.specs.Int.{bit_at}
-use Rattle.std.proofs.lemmas.Int.{ints}
+use Rattle.std.specs.Int.{bit_at, int_min, int_max}
+use Rattle.std.proofs.lemmas.Int.{ints, clamps}
 use Rattle.std.proofs.lemmas.Nat.{and_mask, shr-shr, pow_pos}
 use Rattle.std.proofs.lemmas.Nat.Bits.{bit_at_and, bit_at_or, bit_at-zero, bit_at_ones, bit_at-lt, bit_at_cat_low, bit_at_cat_high, bit_at_above, bit_at-pow_same, bit_at-pow_other, same_from_bits}
 use native.Mathlib.Decide.{ℕ_discrete, dec_lt}
@@ -173,22 +173,25 @@ shr_bit row k i = ap (λ x. x % 2) (shr-shr row k i)
 pub wide_row : (row i : ℕ) → row < 2 ^ 32 → 32 ≤ i → ¬ HasBit row i
 wide_row row i small after has = let e : ◌≡◌ {A = ℕ} 0 1 = sym (bit_at_above row 32 i small after) ∙ has in absurd (omega arith)
 
-pub clear_from_shifted : (row m : ℕ) (column : ℤ) (r : Bool) → pos m ≡ column → IsTrue r ↔ ((k : ℕ) → ¬ HasBit (row / 2 ^ m) k) → IsTrue r ↔ ((k : ℕ) → column ≤ℤ pos k → ¬ HasBit row k)
+-- where m is the column, or the nearest one of the row
+pub clear_from_shifted : (row m : ℕ) (column : ℤ) (r : Bool) → pos m ≡ int_max column (pos 0) → IsTrue r ↔ ((k : ℕ) → ¬ HasBit (row / 2 ^ m) k) → IsTrue r ↔ ((k : ℕ) → column ≤ℤ pos k → ¬ HasBit row k)
 clear_from_shifted row m column r is told = (
-  λ yes k le has.
-      let at_k : m + (k - m) ≡ k = omega (arith, ints) in
-      told.0 yes (k - m) (shr_bit row m (k - m) ∙ ap (bit_at row) at_k ∙ has),
-  λ none. told.1 (λ k has. none (m + k) (omega (arith, ints)) (sym (shr_bit row m k) ∙ has)),
+  λ set k le has.
+      let at_k : m + (k - m) ≡ k = omega (arith, ints, clamps) in
+      told.0 set (k - m) (shr_bit row m (k - m) ∙ ap (bit_at row) at_k ∙ has),
+  λ none. told.1 (λ k has. none (m + k) (omega (arith, ints, clamps)) (sym (shr_bit row m k) ∙ has)),
 )
 
-pub clear_before_shifted : (row m : ℕ) (column : ℤ) (r : Bool) → pos m ≡ column → m < 32 → IsTrue r ↔ ((k : ℕ) → ¬ HasBit (row * 2 ^ (32 - m) % 2 ^ 32) k) → IsTrue r ↔ ((k : ℕ) → (pos k +ℤ pos 1) ≤ℤ column → ¬ HasBit row k)
-clear_before_shifted row m column r is lt told = (
-  λ yes k le has.
-      told.0 yes ((32 - m) + k) (shifted_to (32 - m) row k ((32 - m) + k) has refl (omega (arith, ints))),
+pub clear_before_shifted : (row m : ℕ) (column : ℤ) (r : Bool) → row < 2 ^ 32 → pos m ≡ int_min column (pos 32) → 0 < m → IsTrue r ↔ ((k : ℕ) → ¬ HasBit (row * 2 ^ (32 - m) % 2 ^ 32) k) → IsTrue r ↔ ((k : ℕ) → (pos k +ℤ pos 1) ≤ℤ column → ¬ HasBit row k)
+clear_before_shifted row m column r small is some told = (
+  λ set k le has. elim (dec_lt k 32) [
+    | yes in_row ↦ told.0 set ((32 - m) + k) (shifted_to (32 - m) row k ((32 - m) + k) has refl (omega (arith, ints, clamps)))
+    | no out ↦ wide_row row k small (omega arith) has
+  ],
   λ none. told.1 (λ i has. elim (dec_lt i 32) [
     | yes in_row ↦
         let was = shifted_from (32 - m) row i has in
-        none was.0 (omega (arith, ints, was.2)) was.1
+        none was.0 (omega (arith, ints, clamps, was.2)) was.1
     | no out ↦ wide_row (row * 2 ^ (32 - m) % 2 ^ 32) i (shift_below row (32 - m)) (omega arith) has
   ]),
 )

@@ -34,8 +34,16 @@ impl Extent {
         let mut least = first;
         let mut greatest = first;
         for cell in cells {
-            least = lower(least, *cell);
-            greatest = upper(greatest, *cell);
+            least = Cell {
+                x: least.x.min(cell.x),
+                y: least.y.min(cell.y),
+                z: least.z.min(cell.z),
+            };
+            greatest = Cell {
+                x: greatest.x.max(cell.x),
+                y: greatest.y.max(cell.y),
+                z: greatest.z.max(cell.z),
+            };
         }
         Extent { least, greatest }
     }
@@ -254,26 +262,4 @@ fn is_from_to(number: i32, from: i32, to: i32) -> bool
     ensures { IsTrue result ↔ ((from ≤ℤ number) × (number ≤ℤ to)) }
 {
     from <= number && number <= to
-}
-
-/// The lesser of the two, each coordinate by itself.
-fn lower(cell: Cell, other: Cell) -> Cell
-    ensures { result ≡ lower_of cell other }
-{
-    Cell {
-        x: cell.x.min(other.x),
-        y: cell.y.min(other.y),
-        z: cell.z.min(other.z),
-    }
-}
-
-/// The greater of the two, each coordinate by itself.
-fn upper(cell: Cell, other: Cell) -> Cell
-    ensures { result ≡ upper_of cell other }
-{
-    Cell {
-        x: cell.x.max(other.x),
-        y: cell.y.max(other.y),
-        z: cell.z.max(other.z),
-    }
 }

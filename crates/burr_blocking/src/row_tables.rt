@@ -50,26 +50,17 @@ fn as_number(column: i32) -> u32
 fn is_clear_from(row: u32, column: i32) -> bool
     ensures { IsTrue result ↔ ((k : ℕ) → column ≤ℤ pos k → ¬ HasBit row k) }
 {
-    if column <= 0 {
-        return is_clear(row);
-    }
     if column >= 32 {
         return true;
     }
-    is_clear(row >> as_number(column))
+    is_clear(row >> as_number(column.max(0)))
 }
 
 /// Whether no bit of a row is set before a column.
 fn is_clear_before(row: u32, column: i32) -> bool
     ensures { IsTrue result ↔ ((k : ℕ) → (pos k +ℤ pos 1) ≤ℤ column → ¬ HasBit row k) }
 {
-    if column <= 0 {
-        return true;
-    }
-    if column >= 32 {
-        return is_clear(row);
-    }
-    is_clear(row << (32 - as_number(column)))
+    column <= 0 || is_clear(row << (32 - as_number(column.min(32))))
 }
 
 /// Sets a bit of a row.
@@ -255,11 +246,8 @@ impl PairRows {
         ensures { IsTrue result
             ↔ HasNoneAhead (IsSet self.now.extent self.now.rows.items) from direction }
     {
-        if self.extent.reaches_x(from) {
-            !has_bit(self.rows_ahead(from, direction), self.extent.column(from))
-        } else {
-            true
-        }
+        !self.extent.reaches_x(from)
+            || !has_bit(self.rows_ahead(from, direction), self.extent.column(from))
     }
 
     /// The rows joined in which the displacements lie that are any number of units, at least one,
