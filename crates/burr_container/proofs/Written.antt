@@ -2,6 +2,7 @@
 use Rattle.std.proofs.Common.{◌≡◌, ℕ, zero, suc, ◌+◌, ◌*◌, ◌<◌, ◌≤◌, List, [], ◌∷◌, ◌++◌, length, drop, get_or, refl, sym, ap, ◌∙◌, subst, arith, append_assoc}
 use Rattle.std.specs.Prelude.{Option, Some, None, ◌==◌, Bool, true, false, ◌&&◌, ℤ, pos, IsTrue, if◌then◌else◌, nat_le, nat_lt, ◌^◌}
 use Rattle.std.specs.List.{flat_map, list_all}
+use Rattle.std.specs.Int.{from_bool}
 use Rattle.std.proofs.lemmas.Bool.Decides.{nat_tests}
 use Rattle.burr_code.specs.Instruction.{signed_word}
 use Rattle.burr_container.specs.Rules.Plans.{of_live, Frame, ExitFrame, PlanProcedure, Plan, exit_symbols}
@@ -15,13 +16,15 @@ use Rattle.burr_container.proofs.Common.Containers.{plan_fits}
 use Rattle.std.proofs.lemmas.Bool.{false≢true}
 use Rattle.burr_container.specs.Rules.Fitting.{are_parameters, are_results, is_exit, is_frame, are_forms, are_labels, is_procedure, are_procedures, is_fitting}
 
-abbrev bit : Bool → ℕ
-bit l = if l then 1 else 0
+bit_of : (l : Bool) → from_bool l ≡ (if l then 1 else 0)
+bit_of true = refl
+bit_of false = refl
 
 -- the mask of eight slots
 pub mask_eight : (xs : List Bool) → length xs ≡ 8
-    → bit (get_or xs 0 false) + 2 * (bit (get_or xs 1 false) + 2 * (bit (get_or xs 2 false) + 2 * (bit (get_or xs 3 false) + 2 * (bit (get_or xs 4 false) + 2 * (bit (get_or xs 5 false) + 2 * (bit (get_or xs 6 false) + 2 * bit (get_or xs 7 false))))))) ≡ mask_of xs
-mask_eight (a ∷ b ∷ c ∷ d ∷ e ∷ f ∷ g ∷ h ∷ []) long = omega arith
+    → from_bool (get_or xs 0 false) + 2 * (from_bool (get_or xs 1 false) + 2 * (from_bool (get_or xs 2 false) + 2 * (from_bool (get_or xs 3 false) + 2 * (from_bool (get_or xs 4 false) + 2 * (from_bool (get_or xs 5 false) + 2 * (from_bool (get_or xs 6 false) + 2 * from_bool (get_or xs 7 false))))))) ≡ mask_of xs
+mask_eight (a ∷ b ∷ c ∷ d ∷ e ∷ f ∷ g ∷ h ∷ []) long =
+    omega (arith, bit_of a, bit_of b, bit_of c, bit_of d, bit_of e, bit_of f, bit_of g, bit_of h)
 mask_eight xs long = absurd (omega arith)
 
 abbrev pub coefs_bytes : List Bool → List ℤ → List ℕ

@@ -19,9 +19,9 @@ impl Plan {
     pub fn fits(&self) -> bool
         ensures { result ≡ is_fitting self.now }
     {
-        is_version(self.version)
-            && is_budget(self.budget)
-            && is_piece_count(self.pieces)
+        (self.version == 1 || self.version == 2)
+            && (1 <= self.budget && self.budget <= MOST_BUDGET)
+            && (2 <= self.pieces && self.pieces <= 32)
             && is_name_text(&self.name)
             && are_procedures(
                 Layout {
@@ -31,25 +31,6 @@ impl Plan {
                 &self.procs,
             )
     }
-}
-
-fn is_version(version: u16) -> bool
-    ensures { result ≡ fits_version version }
-{
-    version == 1 || version == 2
-}
-
-fn is_budget(budget: u32) -> bool
-    ensures { result ≡ fits_budget budget }
-{
-    1 <= budget && budget <= MOST_BUDGET
-}
-
-fn is_piece_count(pieces: u8) -> bool
-    ensures test { result ≡ fits_piece_count pieces }
-    ensures few { IsTrue result → pieces ≤ 32 }
-{
-    2 <= pieces && pieces <= 32
 }
 
 fn is_name_text(name: &[u8]) -> bool
@@ -85,34 +66,13 @@ fn all_others(layout: Layout, procedures: &[Procedure]) -> bool
 fn is_procedure(layout: Layout, main: bool, procedure: &Procedure) -> bool
     ensures { result ≡ fits_procedure layout.version layout.pieces main procedure.now }
 {
-    if !are_parameters(main, procedure.params) {
-        return false;
-    }
-    if !are_results(layout, main, procedure.results) {
-        return false;
-    }
     let (parameters, results) = (procedure.params, procedure.results);
-    if !is_exit(layout, main, parameters, results, &procedure.exit) {
+    if MOST_PARAMETERS < parameters || main && parameters != 0 {
         return false;
     }
-    is_body(layout, &procedure.labels, &procedure.code)
-}
-
-/// Whether a procedure may have this many parameters; main has none.
-fn are_parameters(main: bool, parameters: u8) -> bool
-    ensures test { result ≡ fit_parameters main parameters }
-    ensures few { IsTrue result → parameters ≤ 4 }
-{
-    parameters <= if main { 0 } else { MOST_PARAMETERS }
-}
-
-/// Whether a procedure may have this many results; main has none, and in version 1 no procedure
-/// has any.
-fn are_results(layout: Layout, main: bool, results: u8) -> bool
-    ensures test { result ≡ fit_results layout.version main results }
-    ensures few { IsTrue result → results ≤ 2 }
-{
     results <= layout.most_results(main)
+        && is_exit(layout, main, parameters, results, &procedure.exit)
+        && is_body(layout, &procedure.labels, &procedure.code)
 }
 
 fn is_body(layout: Layout, labels: &[(u16, Frame)], code: &[u8]) -> bool
@@ -134,10 +94,23 @@ fn is_exit(
 {
     match (main, exit) {
         (true, None) => true,
-        (true, Some(_)) => false,
-        (false, None) => false,
-        (false, Some(exit)) => is_exit_frame(layout, parameters, results, exit),
+        (true, Some(_)) | (false, None) => false,
+        (false, Some(exit)) => {
+            exit.tray < TRAYS
+                && is_set_of(layout, exit.grip)
+                && is_exit_rest(layout, results, &exit_symbols(parameters, results), exit)
+        }
     }
+}
+
+/// Whether what follows the grip of an exit frame is within the format.
+fn is_exit_rest(layout: Layout, results: u8, live: &[bool; SLOTS], exit: &ExitFrame) -> bool
+    ensures { result ≡ fits_exit_rest layout.version layout.pieces results live.now exit.now }
+{
+    exit.results.len() == usize::from(results)
+        && all_ranges(&exit.results)
+        && are_forms(layout.most_exit_guards(), live, &exit.guards)
+        && are_places(layout, live, &exit.places)
 }
 
 fn are_labels(layout: Layout, end: usize, labels: &[(u16, Frame)]) -> bool
@@ -175,41 +148,6 @@ fn rise(labels: &[(u16, Frame)], end: usize) -> bool
     true
 }
 
-fn is_exit_frame(layout: Layout, parameters: u8, results: u8, exit: &ExitFrame) -> bool
-    requires parameters { parameters ≤ 4 }
-    requires results { results ≤ 2 }
-    ensures { result ≡ fits_exit_frame layout.version layout.pieces parameters results exit.now }
-{
-    if TRAYS <= exit.tray {
-        return false;
-    }
-    if !is_set_of(layout, exit.grip) {
-        return false;
-    }
-    let live = exit_symbols(parameters, results);
-    is_exit_rest(layout, results, &live, exit)
-}
-
-/// Whether what follows the grip of an exit frame is within the format.
-fn is_exit_rest(layout: Layout, results: u8, live: &[bool; SLOTS], exit: &ExitFrame) -> bool
-    ensures { result ≡ fits_exit_rest layout.version layout.pieces results live.now exit.now }
-{
-    if !are_result_ranges(results, &exit.results) {
-        return false;
-    }
-    if !are_forms(layout.most_exit_guards(), live, &exit.guards) {
-        return false;
-    }
-    are_places(layout, live, &exit.places)
-}
-
-/// A range for each result.
-fn are_result_ranges(results: u8, ranges: &[(i16, i16)]) -> bool
-    ensures { result ≡ fit_ranges results ranges.now }
-{
-    ranges.len() == usize::from(results) && all_ranges(ranges)
-}
-
 fn all_ranges(ranges: &[(i16, i16)]) -> bool
     ensures { result ≡ list_all (λ r. fits_range (Some r)) ranges.now }
 {
@@ -219,32 +157,20 @@ fn all_ranges(ranges: &[(i16, i16)]) -> bool
 fn is_frame(layout: Layout, frame: &Frame) -> bool
     ensures { result ≡ fits_frame layout.pieces frame.now }
 {
-    if TRAYS <= frame.tray {
-        return false;
-    }
-    if !is_set_of(layout, frame.grip) {
-        return false;
-    }
-    if !are_ranges(&frame.slots) {
-        return false;
-    }
-    is_frame_rest(layout, &live_slots(&frame.slots), frame)
+    frame.tray < TRAYS
+        && is_set_of(layout, frame.grip)
+        && are_ranges(&frame.slots)
+        && is_frame_rest(layout, &live_slots(&frame.slots), frame)
 }
 
 /// Whether what follows the slots of a frame is within the format.
 fn is_frame_rest(layout: Layout, live: &[bool; SLOTS], frame: &Frame) -> bool
     ensures { result ≡ fits_frame_rest layout.pieces live.now frame.now }
 {
-    if !are_forms(MOST_GUARDS, live, &frame.guards) {
-        return false;
-    }
-    if !are_forms(MOST_OPERANDS, live, &frame.stack) {
-        return false;
-    }
-    if !is_form(live, &frame.cost) {
-        return false;
-    }
-    are_places(layout, live, &frame.places)
+    are_forms(MOST_GUARDS, live, &frame.guards)
+        && are_forms(MOST_OPERANDS, live, &frame.stack)
+        && is_form(live, &frame.cost)
+        && are_places(layout, live, &frame.places)
 }
 
 /// Whether all pieces of this set are pieces of the plan; bit p of the set stands for piece p.

@@ -84,16 +84,10 @@ impl<'a> LabelTable<'a> {
             → AreFor (IsLabel self.now.layout.pieces) self.now.starts ls
             → slice_get ls n ≡ Some l → (result.0 ≡ l.0) × (frame_of result.1 ≡ l.1) }
     {
-        let Ok(label) = label(self.layout(), &mut self.begin(n)) else {
+        let Ok(label) = label(self.layout, &mut self.begin(n)) else {
             unreachable!();
         };
         label
-    }
-
-    fn layout(&self) -> Layout
-        ensures { result ≡ self.now.layout }
-    {
-        self.layout
     }
 
     /// At the begin of label n, which can be read there.

@@ -1,5 +1,4 @@
-ghost use Rattle.burr_container.specs.Laws.PlanBytes.{FaultOrPlan, NoFaultOfPlan, OneFault, OnePlan};
-ghost use Rattle.burr_container.specs.Laws.PlanBytes.{ContainerOfOnePlan, ContainedPlanFits};
+ghost use Rattle.burr_container.specs.Laws.PlanBytes.{FaultOrPlan, NoFaultOfPlan, OneFault, OnePlan, ContainerOfOnePlan, ContainedPlanFits};
 ghost use Rattle.burr_container.specs.Laws.Upgrades.{FirstVersionHasNoResults, StaysFitting, SecondVersionStays};
 
 /// Bytes are a plan's or have a fault, never both, and one plan's or one fault at most. So a plan

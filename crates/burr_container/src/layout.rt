@@ -1,4 +1,4 @@
-ghost use Rattle.std.specs.Prelude.{◌≡◌, ◌≤◌, ◌==◌};
+ghost use Rattle.std.specs.Prelude.{◌≡◌, ◌≤◌};
 ghost use Rattle.burr_container.specs.Rules.Fitting.{most_results as most_of_results, most_exit_guards as most_of_exit_guards};
 
 use burr_code::limits::MOST_GUARDS;
@@ -14,13 +14,6 @@ pub struct Layout {
 }
 
 impl Layout {
-    /// Whether procedures may have results, and exit frames guards: in version 2 alone.
-    pub fn has_results(self) -> bool
-        ensures { result ≡ (self.version == 2) }
-    {
-        self.version == 2
-    }
-
     /// How many results a procedure may have; main has none.
     pub fn most_results(self, main: bool) -> u8
         ensures most { result ≡ most_of_results self.version main }

@@ -6,8 +6,6 @@ ghost use Rattle.burr_container.specs.Views.Decoding.{live_count as count_of_liv
 ghost use Rattle.burr_container.specs.Rules.Plans.{live_slots as live_ones, exit_symbols as first_ones};
 
 use burr_code::limits::SLOTS;
-use burr_forms::Form;
-use byteorder::{BigEndian, ByteOrder};
 
 /// How many slots are live.
 pub fn live_count(live: &[bool; SLOTS]) -> usize

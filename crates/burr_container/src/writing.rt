@@ -6,73 +6,15 @@ ghost use Rattle.byteorder.specs.Endian.{big_bytes};
 ghost use Rattle.std.specs.List.{flat_map, list_all};
 ghost use Rattle.burr_code.specs.Instruction.{signed_word};
 ghost use Rattle.burr_container.specs.Views.Counts.{coef_bytes, has_room, has_room_in_exit, has_room_in_label};
-ghost use Rattle.burr_container.specs.Rules.Plans.{of_live, live_slots as live_ones};
+ghost use Rattle.burr_container.specs.Rules.Plans.{of_live};
 ghost use Rattle.burr_container.specs.Rules.Spelling.{form_bytes, forms_bytes, place_bytes, places_bytes, mask_of as mask_of_live, range_bytes, ranges_bytes, slots_bytes, frame_bytes, exit_guards_bytes, exit_rest, exit_frame_bytes, counted_bytes, result_count_bytes, exit_bytes, label_bytes, labels_bytes, procedure_bytes, plan_bytes};
 ghost use Rattle.burr_container.specs.Views.OwnedPlaces.{placement_of, placements_of};
 ghost use Rattle.burr_container.specs.Rules.Fitting.{is_fitting};
 
-use crate::layout::Layout;
 use crate::lists::{exit_symbols, live_slots};
 use crate::plan::{ExitFrame, Frame, Place, Plan, PlanForm, Procedure};
 use burr_code::limits::SLOTS;
-use byteorder::{BigEndian, ByteOrder};
 use std::alloc::{AllocError, Global};
-
-// Numbers, added to bytes.
-
-/// A count of at most 255, in one byte.
-fn add_count(bytes: &mut Vec<u8>, count: usize) -> Result<(), AllocError>
-    requires { count < 256 }
-    ensures { OnOk result (bytes.new.items ≡ bytes.old.items ++ count ∷ []) }
-{
-    bytes.push(count as u8)?;
-    Ok(())
-}
-
-/// A count of at most 65,535, in two bytes.
-fn add_long_count(bytes: &mut Vec<u8>, count: usize) -> Result<(), AllocError>
-    requires { count < 2 ^ 16 }
-    ensures { OnOk result (bytes.new.items ≡ bytes.old.items ++ big_bytes 2 count) }
-{
-    add_word(bytes, count as u16)
-}
-
-/// A number of 16 bits.
-fn add_word(bytes: &mut Vec<u8>, number: u16) -> Result<(), AllocError>
-    ensures { OnOk result (bytes.new.items ≡ bytes.old.items ++ big_bytes 2 number) }
-{
-    let mut word = [0; 2];
-    BigEndian::write_u16(&mut word, number);
-    bytes.extend_from_slice(&word)
-}
-
-/// A signed number of 16 bits.
-fn add_signed(bytes: &mut Vec<u8>, number: i16) -> Result<(), AllocError>
-    ensures { OnOk result (bytes.new.items ≡ bytes.old.items ++ signed_word number) }
-{
-    let mut word = [0; 2];
-    BigEndian::write_i16(&mut word, number);
-    bytes.extend_from_slice(&word)
-}
-
-/// A number of 32 bits.
-fn add_long(bytes: &mut Vec<u8>, number: u32) -> Result<(), AllocError>
-    ensures { OnOk result (bytes.new.items ≡ bytes.old.items ++ big_bytes 4 number) }
-{
-    let mut long = [0; 4];
-    BigEndian::write_u32(&mut long, number);
-    bytes.extend_from_slice(&long)
-}
-
-/// A signed number of 32 bits.
-fn add_signed_long(bytes: &mut Vec<u8>, number: i32) -> Result<(), AllocError>
-    ensures { OnOk result
-        (bytes.new.items ≡ bytes.old.items ++ big_bytes 4 (cast_unsigned w32 number)) }
-{
-    let mut long = [0; 4];
-    BigEndian::write_i32(&mut long, number);
-    bytes.extend_from_slice(&long)
-}
 
 // Forms and places, added to bytes.
 
@@ -80,7 +22,7 @@ fn add_signed_long(bytes: &mut Vec<u8>, number: i32) -> Result<(), AllocError>
 fn add_form(bytes: &mut Vec<u8>, live: &[bool; SLOTS], form: &PlanForm) -> Result<(), AllocError>
     ensures { OnOk result (bytes.new.items ≡ bytes.old.items ++ form_bytes live.now form.now) }
 {
-    add_signed_long(bytes, form.constant)?;
+    bytes.extend_from_slice(&form.constant.to_be_bytes())?;
     add_coefs(bytes, live, &form.coefs)
 }
 
@@ -104,7 +46,7 @@ fn add_coef(bytes: &mut Vec<u8>, is_live: bool, coef: i16) -> Result<(), AllocEr
     ensures { OnOk result (bytes.new.items ≡ bytes.old.items ++ coef_bytes is_live coef) }
 {
     if is_live {
-        add_signed(bytes, coef)?;
+        bytes.extend_from_slice(&coef.to_be_bytes())?;
     }
     Ok(())
 }
@@ -118,7 +60,7 @@ fn add_forms(
     requires { length forms.now < 256 }
     ensures { OnOk result (bytes.new.items ≡ bytes.old.items ++ forms_bytes live.now forms.now) }
 {
-    add_count(bytes, forms.len())?;
+    bytes.push(forms.len() as u8)?;
     for form in forms {
         add_form(bytes, live, form)?;
     }
@@ -142,7 +84,7 @@ fn add_place(bytes: &mut Vec<u8>, live: &[bool; SLOTS], place: &Place) -> Result
         (bytes.new.items ≡ bytes.old.items ++ place_bytes live.now (placement_of place.now)) }
 {
     match place {
-        Place::Apart => add_count(bytes, 255),
+        Place::Apart => Ok(bytes.push(255)?),
         Place::On(tray, x, y, z) => {
             bytes.push(*tray)?;
             add_form(bytes, live, x)?;
@@ -153,61 +95,6 @@ fn add_place(bytes: &mut Vec<u8>, live: &[bool; SLOTS], place: &Place) -> Result
 }
 
 // Frames, added to bytes.
-
-/// The exit frame of a procedure with this many parameters and results.
-fn add_exit_frame(
-    bytes: &mut Vec<u8>,
-    layout: Layout,
-    parameters: u8,
-    results: u8,
-    exit: &ExitFrame,
-) -> Result<(), AllocError>
-    requires parameters { parameters ≤ 4 }
-    requires results { results ≤ 2 }
-    requires guards { length exit.now.guards < 256 }
-    ensures { OnOk result
-        (bytes.new.items ≡ bytes.old.items
-        ++ exit_frame_bytes layout.version parameters results exit.now) }
-{
-    let live = exit_symbols(parameters, results);
-    bytes.push(exit.tray)?;
-    add_long(bytes, exit.grip)?;
-    add_exit_rest(bytes, layout, &live, exit)
-}
-
-/// What follows the grip of an exit frame.
-fn add_exit_rest(
-    bytes: &mut Vec<u8>,
-    layout: Layout,
-    live: &[bool; SLOTS],
-    exit: &ExitFrame,
-) -> Result<(), AllocError>
-    requires { length exit.now.guards < 256 }
-    ensures { OnOk result
-        (bytes.new.items ≡ bytes.old.items ++ exit_rest layout.version live.now exit.now) }
-{
-    add_ranges(bytes, &exit.results)?;
-    add_exit_guards(bytes, layout, live, &exit.guards)?;
-    add_places(bytes, live, &exit.places)
-}
-
-/// The guards of an exit frame, in version 2 alone.
-fn add_exit_guards(
-    bytes: &mut Vec<u8>,
-    layout: Layout,
-    live: &[bool; SLOTS],
-    guards: &[PlanForm],
-) -> Result<(), AllocError>
-    requires { length guards.now < 256 }
-    ensures { OnOk result
-        (bytes.new.items ≡ bytes.old.items
-        ++ exit_guards_bytes layout.version live.now guards.now) }
-{
-    if !layout.has_results() {
-        return Ok(());
-    }
-    add_forms(bytes, live, guards)
-}
 
 /// The ranges of results.
 fn add_ranges(bytes: &mut Vec<u8>, ranges: &[(i16, i16)]) -> Result<(), AllocError>
@@ -227,8 +114,8 @@ fn add_frame(bytes: &mut Vec<u8>, frame: &Frame) -> Result<(), AllocError>
 {
     let live = live_slots(&frame.slots);
     bytes.push(frame.tray)?;
-    add_long(bytes, frame.grip)?;
-    add_slots(bytes, &live, &frame.slots)?;
+    bytes.extend_from_slice(&frame.grip.to_be_bytes())?;
+    add_slots(bytes, &frame.slots)?;
     add_forms(bytes, &live, &frame.guards)?;
     add_forms(bytes, &live, &frame.stack)?;
     add_form(bytes, &live, &frame.cost)?;
@@ -236,15 +123,10 @@ fn add_frame(bytes: &mut Vec<u8>, frame: &Frame) -> Result<(), AllocError>
 }
 
 /// Which slots are live, and their ranges.
-fn add_slots(
-    bytes: &mut Vec<u8>,
-    live: &[bool; SLOTS],
-    slots: &[Option<(i16, i16)>; SLOTS],
-) -> Result<(), AllocError>
-    requires { live.now ≡ live_ones slots.now }
+fn add_slots(bytes: &mut Vec<u8>, slots: &[Option<(i16, i16)>; SLOTS]) -> Result<(), AllocError>
     ensures { OnOk result (bytes.new.items ≡ bytes.old.items ++ slots_bytes slots.now) }
 {
-    bytes.push(mask_of(live))?;
+    bytes.push(mask_of(&live_slots(slots)))?;
     for slot in slots {
         add_range(bytes, slot)?;
     }
@@ -258,8 +140,8 @@ fn add_range(bytes: &mut Vec<u8>, slot: &Option<(i16, i16)>) -> Result<(), Alloc
     match slot {
         None => Ok(()),
         Some((low, high)) => {
-            add_signed(bytes, *low)?;
-            add_signed(bytes, *high)
+            bytes.extend_from_slice(&low.to_be_bytes())?;
+            bytes.extend_from_slice(&high.to_be_bytes())
         }
     }
 }
@@ -269,15 +151,8 @@ fn mask_of(live: &[bool; SLOTS]) -> u8
     ensures { result ≡ mask_of_live live.now }
 {
     let [a, b, c, d, e, f, g, h] = *live;
-    let high = bit(e) + 2 * (bit(f) + 2 * (bit(g) + 2 * bit(h)));
-    bit(a) + 2 * (bit(b) + 2 * (bit(c) + 2 * (bit(d) + 2 * high)))
-}
-
-fn bit(is_live: bool) -> u8
-    ensures bit { result ≡ (if is_live then 1 else 0) }
-    ensures small { result ≤ 1 }
-{
-    u8::from(is_live)
+    let high = u8::from(e) + 2 * (u8::from(f) + 2 * (u8::from(g) + 2 * u8::from(h)));
+    u8::from(a) + 2 * (u8::from(b) + 2 * (u8::from(c) + 2 * (u8::from(d) + 2 * high)))
 }
 
 // Plans, in bytes.
@@ -287,72 +162,55 @@ pub fn write(alloc: Global, plan: &Plan) -> Result<Vec<u8>, AllocError>
     requires { IsTrue (is_fitting plan.now) }
     ensures { IfOk result (λ bytes. bytes.items ≡ plan_bytes plan.now) }
 {
-    let layout = Layout {
-        version: plan.version,
-        pieces: plan.pieces,
-    };
     let mut bytes = Vec::from_slice(alloc, b"BPLN")?;
-    add_word(&mut bytes, plan.version)?;
-    add_long(&mut bytes, plan.budget)?;
+    bytes.extend_from_slice(&plan.version.to_be_bytes())?;
+    bytes.extend_from_slice(&plan.budget.to_be_bytes())?;
     bytes.push(plan.pieces)?;
-    add_count(&mut bytes, plan.name.len())?;
+    bytes.push(plan.name.len() as u8)?;
     bytes.extend_from_slice(&plan.name)?;
-    add_procedures(&mut bytes, layout, &plan.procs)?;
+    add_procedures(&mut bytes, plan.version, &plan.procs)?;
     Ok(bytes)
 }
 
 /// Procedures, with their count in front of them.
 fn add_procedures(
     bytes: &mut Vec<u8>,
-    layout: Layout,
+    version: u16,
     procedures: &[Procedure],
 ) -> Result<(), AllocError>
     requires few { length procedures.now < 256 }
     requires room { IsTrue (list_all has_room procedures.now) }
     ensures { OnOk result
         (bytes.new.items ≡ bytes.old.items
-        ++ counted_bytes (procedure_bytes layout.version) procedures.now) }
+        ++ counted_bytes (procedure_bytes version) procedures.now) }
 {
-    add_count(bytes, procedures.len())?;
+    bytes.push(procedures.len() as u8)?;
     for procedure in procedures {
-        add_procedure(bytes, layout, procedure)?;
+        add_procedure(bytes, version, procedure)?;
     }
     Ok(())
 }
 
-fn add_procedure(
-    bytes: &mut Vec<u8>,
-    layout: Layout,
-    procedure: &Procedure,
-) -> Result<(), AllocError>
+fn add_procedure(bytes: &mut Vec<u8>, version: u16, procedure: &Procedure) -> Result<(), AllocError>
     requires { IsTrue (has_room procedure.now) }
     ensures { OnOk result
-        (bytes.new.items ≡ bytes.old.items ++ procedure_bytes layout.version procedure.now) }
+        (bytes.new.items ≡ bytes.old.items ++ procedure_bytes version procedure.now) }
 {
     bytes.push(procedure.params)?;
-    add_result_count(bytes, layout, procedure.results)?;
     let (parameters, results) = (procedure.params, procedure.results);
-    add_exit(bytes, layout, parameters, results, &procedure.exit)?;
-    add_labels(bytes, &procedure.labels)?;
-    add_long_count(bytes, procedure.code.len())?;
-    bytes.extend_from_slice(&procedure.code)
-}
-
-/// How many results a procedure has, in version 2 alone.
-fn add_result_count(bytes: &mut Vec<u8>, layout: Layout, results: u8) -> Result<(), AllocError>
-    ensures { OnOk result
-        (bytes.new.items ≡ bytes.old.items ++ result_count_bytes layout.version results) }
-{
-    if layout.has_results() {
+    if version == 2 {
         bytes.push(results)?;
     }
-    Ok(())
+    add_exit(bytes, version, parameters, results, &procedure.exit)?;
+    add_labels(bytes, &procedure.labels)?;
+    bytes.extend_from_slice(&(procedure.code.len() as u16).to_be_bytes())?;
+    bytes.extend_from_slice(&procedure.code)
 }
 
 /// The exit frame of a procedure with this many parameters and results, if it has one.
 fn add_exit(
     bytes: &mut Vec<u8>,
-    layout: Layout,
+    version: u16,
     parameters: u8,
     results: u8,
     exit: &Option<ExitFrame>,
@@ -362,12 +220,19 @@ fn add_exit(
     requires room { IsTrue (has_room_in_exit exit.now) }
     ensures { OnOk result
         (bytes.new.items ≡ bytes.old.items
-        ++ exit_bytes layout.version parameters results exit.now) }
+        ++ exit_bytes version parameters results exit.now) }
 {
-    match exit {
-        None => Ok(()),
-        Some(exit) => add_exit_frame(bytes, layout, parameters, results, exit),
+    let Some(exit) = exit else {
+        return Ok(());
+    };
+    let live = exit_symbols(parameters, results);
+    bytes.push(exit.tray)?;
+    bytes.extend_from_slice(&exit.grip.to_be_bytes())?;
+    add_ranges(bytes, &exit.results)?;
+    if version == 2 {
+        add_forms(bytes, &live, &exit.guards)?;
     }
+    add_places(bytes, &live, &exit.places)
 }
 
 /// Labels, with their count in front of them.
@@ -376,7 +241,7 @@ fn add_labels(bytes: &mut Vec<u8>, labels: &[(u16, Frame)]) -> Result<(), AllocE
     requires room { IsTrue (list_all has_room_in_label labels.now) }
     ensures { OnOk result (bytes.new.items ≡ bytes.old.items ++ labels_bytes labels.now) }
 {
-    add_long_count(bytes, labels.len())?;
+    bytes.extend_from_slice(&(labels.len() as u16).to_be_bytes())?;
     for label in labels {
         add_label(bytes, label)?;
     }
@@ -388,6 +253,6 @@ fn add_label(bytes: &mut Vec<u8>, label: &(u16, Frame)) -> Result<(), AllocError
     requires { IsTrue (has_room_in_label label.now) }
     ensures { OnOk result (bytes.new.items ≡ bytes.old.items ++ label_bytes label.now) }
 {
-    add_word(bytes, label.0)?;
+    bytes.extend_from_slice(&label.0.to_be_bytes())?;
     add_frame(bytes, &label.1)
 }

@@ -78,19 +78,11 @@ fn budget(cursor: &mut Cursor<'_>) -> Result<u32, ContainerFault>
     Ok(budget)
 }
 
-/// A name, with its length in front of it.
+/// A name, with its length in front of it; where these bytes are no name, C4 at the first of them.
 fn name<'a>(cursor: &mut Cursor<'a>) -> Result<&'a [u8], ContainerFault>
     ensures { ReadsInPlace (λ name. name.now) name_part cursor.old cursor.new result }
 {
     let length = count_within(cursor, 1, 32)?;
-    name_text(length, cursor)
-}
-
-/// A name of this length; where these bytes are no name, C4 at the first of them.
-fn name_text<'a>(length: usize, cursor: &mut Cursor<'a>) -> Result<&'a [u8], ContainerFault>
-    ensures { ReadsInPlace (λ name. name.now) (raw length C4_at is_name_text)
-        cursor.old cursor.new result }
-{
     let at = cursor.at;
     let name = cursor.bytes(length)?;
     if !is_name(name) {
@@ -145,7 +137,7 @@ fn result_count(layout: Layout, main: bool, cursor: &mut Cursor<'_>) -> Result<u
     ensures few { IfOk result (λ ok. ok ≤ 2) }
     ensures reads { Reads (result_count_part layout.version main) cursor.old cursor.new result }
 {
-    if !layout.has_results() {
+    if layout.version != 2 {
         return Ok(0);
     }
     byte_within(cursor, 0, layout.most_results(main))
@@ -314,7 +306,7 @@ fn exit_guards<'a>(
     ensures reads { ReadsInPlace forms_of (exit_guards_part layout.version live)
         cursor.old cursor.new result }
 {
-    if !layout.has_results() {
+    if layout.version != 2 {
         return Ok(FormList {
             live,
             count: 0,

@@ -11,7 +11,7 @@ loop-procedure-preserved c =
     let all = c.args.procedures.now in
     let i = c.loop-procedure.procedure-index in
     let item = c.procedure-item.result in
-    let bytes_of = procedure_bytes c.args.layout.version in
+    let bytes_of = procedure_bytes c.args.version in
     let next = next_of bytes_of i all item (omega arith) ∙ ap (λ (x : PlanProcedure). bytes_of x ++ flat_map bytes_of (drop (i + 1) all)) (sym c.procedure-item.is) in
     rw c.in_ok-add_procedure.ensures
     (one_more [] c.loop-procedure.bytes.items (bytes_of item) (flat_map bytes_of (drop (i + 1) all)) _ _ c.loop-procedure.invariant next)

@@ -6,5 +6,5 @@ use Rattle.burr_container.proofs.writing.add_procedures.Given as goal
 
 abbrev pub invariant-loop-procedure : goal.invariant-loop-procedure
 invariant-loop-procedure l =
-    l.bytes.items ++ flat_map (procedure_bytes l.layout.version) (drop l.procedure-index l.procedures)
-    ≡ l.initial.bytes.items ++ flat_map (procedure_bytes l.layout.version) l.procedures
+    l.bytes.items ++ flat_map (procedure_bytes l.version) (drop l.procedure-index l.procedures)
+    ≡ l.initial.bytes.items ++ flat_map (procedure_bytes l.version) l.procedures

@@ -6,5 +6,5 @@ use Rattle.burr_container.proofs.writing.mask_of.Goals as goal
 pub returns : goal.returns
 returns c =
     let long : length c.args.live.now ≡ 8 = c.told-live in
-    rw (c.bit.ensures.bit, c.bit-2.ensures.bit, c.bit-3.ensures.bit, c.bit-4.ensures.bit, c.bit-5.ensures.bit, c.bit-6.ensures.bit, c.bit-7.ensures.bit, c.bit-8.ensures.bit)
+    rw (c.from.ensures, c.from-2.ensures, c.from-3.ensures, c.from-4.ensures, c.from-5.ensures, c.from-6.ensures, c.from-7.ensures, c.from-8.ensures)
     (mask_eight c.args.live.now long)

@@ -4,8 +4,8 @@ use Rattle.burr_container.specs.Rules.Plans.{Plan}
 use Rattle.burr_container.proofs.Written.{HasRoom, plan_has_room}
 use Rattle.burr_container.proofs.writing.write.Goals as goal
 
-pub add_count-requires : goal.add_count-requires
-add_count-requires c =
+pub overflow_cast-len : goal.overflow_cast-len
+overflow_cast-len c =
     let room = subst (λ (p : Plan). HasRoom p) (sym c.plan.view_is) (plan_has_room c.args.plan.now c.requires) in
     let short : length c.plan.inside.name.items ≤ 32 = room.name in
     omega (arith, c.len.ensures, short)
