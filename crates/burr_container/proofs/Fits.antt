@@ -10,15 +10,6 @@ goes_on test rest left whole so next is = sym (next ∙ ap (λ (t : Bool). t && 
 pub breaks_off : (test rest left whole : Bool) → left ≡ whole → left ≡ (test && rest) → test ≡ false → false ≡ whole
 breaks_off test rest left whole so next is = sym (next ∙ ap (λ (t : Bool). t && rest) is) ∙ so
 
-pub first_fails : (a b c d : Bool) → a ≡ false → false ≡ (a && b && c && d)
-first_fails a b c d e = rw e refl
-
-pub second_fails : (a b c d : Bool) → a ≡ true → b ≡ false → false ≡ (a && b && c && d)
-second_fails a b c d e f = rw (e, f) refl
-
-pub last_of_four : (a b c d r : Bool) → a ≡ true → b ≡ true → c ≡ true → d ≡ r → r ≡ (a && b && c && d)
-last_of_four a b c d r e f g h = rw (e, f, g, h) refl
-
 -- bytes are below 256
 pub all_bytes : (xs : List ℕ) → ((i : ℕ) → slice_index xs i < 256) → list_all (λ b. nat_lt b 256) xs ≡ true
 all_bytes [] small = refl

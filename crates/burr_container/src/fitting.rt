@@ -66,12 +66,11 @@ fn all_others(layout: Layout, procedures: &[Procedure]) -> bool
 fn is_procedure(layout: Layout, main: bool, procedure: &Procedure) -> bool
     ensures { result ≡ fits_procedure layout.version layout.pieces main procedure.now }
 {
-    let (parameters, results) = (procedure.params, procedure.results);
-    if MOST_PARAMETERS < parameters || main && parameters != 0 {
+    if MOST_PARAMETERS < procedure.params || main && procedure.params != 0 {
         return false;
     }
-    results <= layout.most_results(main)
-        && is_exit(layout, main, parameters, results, &procedure.exit)
+    procedure.results <= layout.most_results(main)
+        && is_exit(layout, main, procedure)
         && is_body(layout, &procedure.labels, &procedure.code)
 }
 
@@ -81,50 +80,35 @@ fn is_body(layout: Layout, labels: &[(u16, Frame)], code: &[u8]) -> bool
     are_labels(layout, code.len(), labels) && code.len() <= MOST_CODE
 }
 
-fn is_exit(
-    layout: Layout,
-    main: bool,
-    parameters: u8,
-    results: u8,
-    exit: &Option<ExitFrame>,
-) -> bool
-    requires parameters { parameters ≤ 4 }
-    requires results { results ≤ 2 }
-    ensures { result ≡ fits_exit layout.version main layout.pieces parameters results exit.now }
+/// Whether the exit frame of a procedure is within the format; main has none.
+fn is_exit(layout: Layout, main: bool, procedure: &Procedure) -> bool
+    requires parameters { procedure.now.parameters ≤ 4 }
+    requires results { procedure.now.results ≤ 2 }
+    ensures { result ≡ fits_exit layout.version main layout.pieces
+        procedure.now.parameters procedure.now.results procedure.now.exit }
 {
-    match (main, exit) {
+    match (main, &procedure.exit) {
         (true, None) => true,
         (true, Some(_)) | (false, None) => false,
         (false, Some(exit)) => {
+            let live = exit_symbols(procedure.params, procedure.results);
             exit.tray < TRAYS
                 && is_set_of(layout, exit.grip)
-                && is_exit_rest(layout, results, &exit_symbols(parameters, results), exit)
+                && exit.results.len() == usize::from(procedure.results)
+                && all_ranges(&exit.results)
+                && are_forms(layout.most_exit_guards(), &live, &exit.guards)
+                && are_places(layout, &live, &exit.places)
         }
     }
-}
-
-/// Whether what follows the grip of an exit frame is within the format.
-fn is_exit_rest(layout: Layout, results: u8, live: &[bool; SLOTS], exit: &ExitFrame) -> bool
-    ensures { result ≡ fits_exit_rest layout.version layout.pieces results live.now exit.now }
-{
-    exit.results.len() == usize::from(results)
-        && all_ranges(&exit.results)
-        && are_forms(layout.most_exit_guards(), live, &exit.guards)
-        && are_places(layout, live, &exit.places)
 }
 
 fn are_labels(layout: Layout, end: usize, labels: &[(u16, Frame)]) -> bool
     ensures { result ≡ fit_labels layout.pieces end labels.now }
 {
-    match labels {
-        [] => false,
-        [first, ..] => {
-            first.0 == 0
-                && rise(labels, end)
-                && labels.len() <= MOST_LABELS
-                && all_frames(layout, labels)
-        }
-    }
+    let [first, ..] = labels else {
+        return false;
+    };
+    first.0 == 0 && rise(labels, end) && labels.len() <= MOST_LABELS && all_frames(layout, labels)
 }
 
 fn all_frames(layout: Layout, labels: &[(u16, Frame)]) -> bool
@@ -157,20 +141,14 @@ fn all_ranges(ranges: &[(i16, i16)]) -> bool
 fn is_frame(layout: Layout, frame: &Frame) -> bool
     ensures { result ≡ fits_frame layout.pieces frame.now }
 {
+    let live = live_slots(&frame.slots);
     frame.tray < TRAYS
         && is_set_of(layout, frame.grip)
         && are_ranges(&frame.slots)
-        && is_frame_rest(layout, &live_slots(&frame.slots), frame)
-}
-
-/// Whether what follows the slots of a frame is within the format.
-fn is_frame_rest(layout: Layout, live: &[bool; SLOTS], frame: &Frame) -> bool
-    ensures { result ≡ fits_frame_rest layout.pieces live.now frame.now }
-{
-    are_forms(MOST_GUARDS, live, &frame.guards)
-        && are_forms(MOST_OPERANDS, live, &frame.stack)
-        && is_form(live, &frame.cost)
-        && are_places(layout, live, &frame.places)
+        && are_forms(MOST_GUARDS, &live, &frame.guards)
+        && are_forms(MOST_OPERANDS, &live, &frame.stack)
+        && is_form(&live, &frame.cost)
+        && are_places(layout, &live, &frame.places)
 }
 
 /// Whether all pieces of this set are pieces of the plan; bit p of the set stands for piece p.

@@ -1,13 +1,11 @@
 //! The bytes of plans.
 
-ghost use Rattle.std.specs.Prelude.{◌≡◌, ◌<◌, ◌++◌, ◌∷◌, ◌^◌, [], OnOk, length, ◌≤◌, if◌then◌else◌, IfOk, IsTrue};
-ghost use Rattle.std.specs.Int.{w32, cast_unsigned};
-ghost use Rattle.byteorder.specs.Endian.{big_bytes};
+ghost use Rattle.std.specs.Prelude.{◌≡◌, ◌<◌, ◌++◌, ◌∷◌, ◌^◌, [], OnOk, length, ◌≤◌, IfOk, IsTrue};
 ghost use Rattle.std.specs.List.{flat_map, list_all};
 ghost use Rattle.burr_code.specs.Instruction.{signed_word};
-ghost use Rattle.burr_container.specs.Views.Counts.{coef_bytes, has_room, has_room_in_exit, has_room_in_label};
+ghost use Rattle.burr_container.specs.Views.Counts.{coef_bytes, has_room, has_room_in_label};
 ghost use Rattle.burr_container.specs.Rules.Plans.{of_live};
-ghost use Rattle.burr_container.specs.Rules.Spelling.{form_bytes, forms_bytes, place_bytes, places_bytes, mask_of as mask_of_live, range_bytes, ranges_bytes, slots_bytes, frame_bytes, exit_guards_bytes, exit_rest, exit_frame_bytes, counted_bytes, result_count_bytes, exit_bytes, label_bytes, labels_bytes, procedure_bytes, plan_bytes};
+ghost use Rattle.burr_container.specs.Rules.Spelling.{form_bytes, forms_bytes, place_bytes, places_bytes, mask_of as mask_of_live, range_bytes, ranges_bytes, slots_bytes, frame_bytes, counted_bytes, exit_bytes, label_bytes, labels_bytes, procedure_bytes, plan_bytes};
 ghost use Rattle.burr_container.specs.Views.OwnedPlaces.{placement_of, placements_of};
 ghost use Rattle.burr_container.specs.Rules.Fitting.{is_fitting};
 
@@ -197,35 +195,26 @@ fn add_procedure(bytes: &mut Vec<u8>, version: u16, procedure: &Procedure) -> Re
         (bytes.new.items ≡ bytes.old.items ++ procedure_bytes version procedure.now) }
 {
     bytes.push(procedure.params)?;
-    let (parameters, results) = (procedure.params, procedure.results);
     if version == 2 {
-        bytes.push(results)?;
+        bytes.push(procedure.results)?;
     }
-    add_exit(bytes, version, parameters, results, &procedure.exit)?;
+    add_exit(bytes, version, procedure)?;
     add_labels(bytes, &procedure.labels)?;
     bytes.extend_from_slice(&(procedure.code.len() as u16).to_be_bytes())?;
     bytes.extend_from_slice(&procedure.code)
 }
 
-/// The exit frame of a procedure with this many parameters and results, if it has one.
-fn add_exit(
-    bytes: &mut Vec<u8>,
-    version: u16,
-    parameters: u8,
-    results: u8,
-    exit: &Option<ExitFrame>,
-) -> Result<(), AllocError>
-    requires parameters { parameters ≤ 4 }
-    requires results { results ≤ 2 }
-    requires room { IsTrue (has_room_in_exit exit.now) }
+/// The exit frame of a procedure, if it has one.
+fn add_exit(bytes: &mut Vec<u8>, version: u16, procedure: &Procedure) -> Result<(), AllocError>
+    requires { IsTrue (has_room procedure.now) }
     ensures { OnOk result
         (bytes.new.items ≡ bytes.old.items
-        ++ exit_bytes version parameters results exit.now) }
+        ++ exit_bytes version procedure.now.parameters procedure.now.results procedure.now.exit) }
 {
-    let Some(exit) = exit else {
+    let Some(exit) = &procedure.exit else {
         return Ok(());
     };
-    let live = exit_symbols(parameters, results);
+    let live = exit_symbols(procedure.params, procedure.results);
     bytes.push(exit.tray)?;
     bytes.extend_from_slice(&exit.grip.to_be_bytes())?;
     add_ranges(bytes, &exit.results)?;

@@ -1,9 +1,17 @@
 -- Reading a part of a container.
-use Rattle.std.specs.Prelude.{Result, MatchResult, IsTrue}
+use Rattle.std.specs.Prelude.{ℕ, List, Result, MatchResult, IsTrue}
 use Rattle.burr_container.specs.declared.fault.ContainerFault.{ContainerFault}
 use Rattle.burr_container.specs.declared.reading.cursor.Cursor.{Cursor}
-use Rattle.burr_container.specs.Views.Cuts.{IsCut}
+use Rattle.burr_container.specs.Views.Cuts.{IsCut, IsShort}
 use Rattle.burr_container.specs.Rules.Faults.{Part}
+
+-- the next `width` bytes spell the result, or there are too few
+abbrev pub Takes : {A : Type 0} → ℕ → (A → List ℕ) → (cursor next : Cursor)
+    → Result A ContainerFault → Type 0
+Takes width spelled cursor next result =
+    MatchResult result
+    (λ ok. IsCut cursor.at cursor.rest.now (spelled ok) next.at next.rest.now)
+    (λ fault. IsShort width cursor.at cursor.rest.now fault)
 
 -- a value of the part stands at the cursor, and after it the next one
 pub record IsAt {A : Type 0} (part : Part A) (cursor : Cursor) (value : A) (next : Cursor) : Type 0

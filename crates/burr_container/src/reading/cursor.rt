@@ -16,6 +16,8 @@ pub struct Cursor<'a> {
 }
 
 impl<'a> Cursor<'a> {
+    ghost use Rattle.burr_container.specs.Views.Reading.{Takes};
+
     /// At the begin of some bytes.
     pub fn new(bytes: &'a [u8]) -> Cursor<'a>
         ensures at { result.at ≡ 0 }
@@ -47,9 +49,7 @@ impl<'a> Cursor<'a> {
 
     /// The next byte.
     pub fn byte(&mut self) -> Result<u8, ContainerFault>
-        ensures { MatchResult result
-            (λ ok. IsCut self.old.at self.old.rest.now (ok ∷ []) self.new.at self.new.rest.now)
-            (λ fault. IsShort 1 self.old.at self.old.rest.now fault) }
+        ensures { Takes 1 (λ byte. byte ∷ []) self.old self.new result }
     {
         let bytes = self.bytes(1)?;
         Ok(bytes[0])
@@ -57,10 +57,7 @@ impl<'a> Cursor<'a> {
 
     /// The next number of 16 bits.
     pub fn word(&mut self) -> Result<u16, ContainerFault>
-        ensures { MatchResult result
-            (λ ok. IsCut self.old.at self.old.rest.now (big_bytes 2 ok)
-            self.new.at self.new.rest.now)
-            (λ fault. IsShort 2 self.old.at self.old.rest.now fault) }
+        ensures { Takes 2 (big_bytes 2) self.old self.new result }
     {
         let bytes = self.bytes(2)?;
         Ok(BigEndian::read_u16(bytes))
@@ -68,10 +65,7 @@ impl<'a> Cursor<'a> {
 
     /// The next signed number of 16 bits.
     pub fn signed(&mut self) -> Result<i16, ContainerFault>
-        ensures { MatchResult result
-            (λ ok. IsCut self.old.at self.old.rest.now (signed_word ok)
-            self.new.at self.new.rest.now)
-            (λ fault. IsShort 2 self.old.at self.old.rest.now fault) }
+        ensures { Takes 2 signed_word self.old self.new result }
     {
         let bytes = self.bytes(2)?;
         Ok(BigEndian::read_i16(bytes))
@@ -79,10 +73,7 @@ impl<'a> Cursor<'a> {
 
     /// The next number of 32 bits.
     pub fn long(&mut self) -> Result<u32, ContainerFault>
-        ensures { MatchResult result
-            (λ ok. IsCut self.old.at self.old.rest.now (big_bytes 4 ok)
-            self.new.at self.new.rest.now)
-            (λ fault. IsShort 4 self.old.at self.old.rest.now fault) }
+        ensures { Takes 4 (big_bytes 4) self.old self.new result }
     {
         let bytes = self.bytes(4)?;
         Ok(BigEndian::read_u32(bytes))
