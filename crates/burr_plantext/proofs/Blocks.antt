@@ -1,5 +1,5 @@
 -- Labels with their frames and their code, and procedures, one after the other.
-use Rattle.std.proofs.Common.{◌≡◌, ℕ, suc, ◌+◌, ◌-◌, ◌<◌, ◌≤◌, ◌==◌, Bool, true, false, IsTrue, Option, Some, None, List, [], ◌∷◌, ◌++◌, drop, take, length, refl, sym, ap, ◌∙◌, subst, arith, append_assoc, append-nil, slice_get, codes, IfSome, if◌then◌else◌, length-take-le, length-drop}
+use Rattle.std.proofs.Common.{◌≡◌, ℕ, suc, ◌+◌, ◌-◌, ◌<◌, ◌≤◌, ◌≢◌, ◌==◌, Bool, true, false, IsTrue, Option, Some, None, List, [], ◌∷◌, ◌++◌, drop, take, length, refl, sym, ap, ◌∙◌, subst, arith, append_assoc, append-nil, slice_get, codes, IfSome, if◌then◌else◌, length-take-le, length-drop}
 use Rattle.burr_code.specs.declared.limits.TheConstants.{MOST_CODE}
 use Rattle.burr_container.specs.Rules.Plans.{Frame, PlanProcedure, Plan}
 use Rattle.burr_plantext.specs.Views.Symbols.{IsOverLive}
@@ -9,7 +9,7 @@ use Rattle.burr_plantext.specs.Rules.Sources.{Block, ProcedureSource, PlanSource
 use Rattle.burr_plantext.specs.Rules.Meaning.{code_size}
 use Rattle.burr_plantext.specs.Rules.Writing.{text_of, line_text}
 use Rattle.burr_plantext.specs.Rules.Listing.{IsCodeListed, AreBlocksListed, AreProceduresListed, IsListed, code_after, procedure_name, label_name, frame_listed, exit_listed, head_of, title_of}
-use Rattle.burr_plantext.specs.Views.Parts.{frame_text, exit_text, title_text, count_text}
+use Rattle.burr_plantext.specs.Views.Parts.{frame_text, exit_text, title_text}
 use Rattle.std.specs.Fmt.{decimal}
 use Rattle.std.proofs.lemmas.List.{drop_all}
 use Rattle.burr_container.specs.Rules.Fitting.{is_frame, rise_from}
@@ -24,6 +24,7 @@ use Rattle.burr_container.specs.Views.Containers.{ContainerView, IsHeader, IsCon
 use Rattle.burr_container.proofs.Common.OneContainer.{fits_where_kept}
 use Rattle.burr_plantext.proofs.Steps.{left_at, got_at, got_dropped}
 use Rattle.burr_plantext.proofs.CodeSteps.{rest_taken, listed_size}
+use Rattle.burr_plantext.proofs.SetSteps.{not_equal}
 use Rattle.burr_plantext.proofs.PlanSteps.{as_many, for_at, of_plan, procedure_fits, labels_fit, frame_over, FitsLabels, rises_at, rises_next}
 
 size_by : (code : List ℕ) (position : ℕ) (labels : List (ℕ × Frame))
@@ -109,24 +110,29 @@ block_bounds kept i n start end code has inside label starts ends codes =
     let long = ap (λ (bytes : List ℕ). length bytes) (codes o.plan o.procedure o.is o.here) in
     (omega (arith, both.0, begin, stop), omega (arith, both.1, stop, long))
 
-pub block_is : (start end : ℕ) (code part : List ℕ) (q : PlanProcedure) (n : ℕ) (l : ℕ × Frame)
-    → (start ≤ end) × (end ≤ length code) → length code ≤ MOST_CODE
-    → part ≡ take (end - start) (drop start code) → start ≡ l.0
-    → end ≡ begin_of (length q.code) (drop (n + 1) q.labels) → code ≡ q.code
-    → (part ≡ code_after q.code l.0 (drop (n + 1) q.labels)) × (l.0 + length part ≤ MOST_CODE)
-block_is start end code part q n l bounds short is begin stop same =
-    let size = length-take-le (end - start) (drop start code) (omega (arith, bounds.0, bounds.1, length-drop start code)) in
-    let long = ap (λ (bytes : List ℕ). length bytes) is in (
-      is ∙ (λ j. take (stop j - begin j) (drop (begin j) (same j)))
-          ∙ part_is q.code l.0 (drop (n + 1) q.labels),
-      omega (arith, size, long, bounds.0, bounds.1, short, begin),
-    )
+pub block_is : (start end : ℕ) (code : List ℕ) (q : PlanProcedure) (n : ℕ) (l : ℕ × Frame)
+    → start ≡ l.0 → end ≡ begin_of (length q.code) (drop (n + 1) q.labels) → code ≡ q.code
+    → take (end - start) (drop start code) ≡ code_after q.code l.0 (drop (n + 1) q.labels)
+block_is start end code q n l begin stop same =
+    (λ j. take (stop j - begin j) (drop (begin j) (same j)))
+    ∙ part_is q.code l.0 (drop (n + 1) q.labels)
 
-pub label_added : (n : ℕ) (l : ℕ × Frame) (f : Frame) (old mid new : List ℕ)
-    → mid ≡ old ++ line_text (LabelLine (label_name n)) → f ≡ l.1 → new ≡ mid ++ frame_text f
+-- it is short
+pub block_short : (start end : ℕ) (code : List ℕ) → (start ≤ end) × (end ≤ length code)
+    → length code ≤ MOST_CODE → start + length (take (end - start) (drop start code)) ≤ MOST_CODE
+block_short start end code bounds short =
+    let size = length-take-le (end - start) (drop start code) (omega (arith, bounds.0, bounds.1, length-drop start code)) in
+    omega (arith, size, bounds.0, bounds.1, short)
+
+pub label_added : (n : ℕ) (l : ℕ × Frame) (f : Frame) (old named lined new : List ℕ)
+    → named ≡ old ++ (codes "label L" ++ decimal n) → lined ≡ named ++ 10 ∷ [] → f ≡ l.1
+    → new ≡ lined ++ frame_text f
     → new ≡ old ++ text_of (LabelLine (label_name n) ∷ frame_lines (frame_listed l.1))
-label_added n l f old mid new line same says =
+label_added n l f old named lined new name line same says =
+    let whole : (old ++ (codes "label L" ++ decimal n)) ++ 10 ∷ [] ≡ old ++ line_text (LabelLine (label_name n)) =
+    append_assoc old (codes "label L" ++ decimal n) (10 ∷ []) in
     says ∙ (λ j. line j ++ frame_text (same j))
+    ∙ ap (λ (t : List ℕ). t ++ frame_text l.1) (ap (λ (t : List ℕ). t ++ 10 ∷ []) name ∙ whole)
     ∙ append_assoc old (line_text (LabelLine (label_name n))) (frame_text l.1)
 
 -- the frame of a label is over its own live slots
@@ -140,19 +146,6 @@ frame_of_label kept i n f has inside label is =
     subst (λ (f : Frame). IsOverLive f) (sym (is o.plan o.procedure o.is o.here l there))
     (frame_over o.plan.pieces l.1
     (all_at (λ (label : ℕ × Frame). is_frame o.plan.pieces label.1) o.procedure.labels n l fits.frames there))
-
--- the block of a label is short
-pub block_short : (kept : ContainerView) (i n start : ℕ) (part : List ℕ) → HasPlan kept
-    → i < length kept.procedures → HasLabel kept i n → OfLabel kept i n (λ l. start ≡ l.0)
-    → OfProcedure kept i (λ p q. (l : ℕ × Frame) → slice_get q.labels n ≡ Some l
-    → (part ≡ code_after q.code l.0 (drop (n + 1) q.labels)) × (l.0 + length part ≤ MOST_CODE))
-    → start + length part ≤ MOST_CODE
-block_short kept i n start part has inside label starts are =
-    let o = of_plan kept i has inside in
-    let (l, there) = got_at o.procedure.labels n (has_label_in kept o.plan o.procedure i n o.is o.here label) in
-    let begin = starts o.plan o.procedure o.is o.here l there in
-    let both = are o.plan o.procedure o.is o.here l there in
-    omega (arith, begin, both.1)
 
 pub block_added : (labels procedures : ℕ) (placed : Option ℕ) (q : PlanProcedure) (n : ℕ)
     (l : ℕ × Frame) (start : ℕ) (part old mid new : List ℕ) → start ≡ l.0
@@ -246,34 +239,45 @@ placed_is false i = refl
 
 -- Procedures
 
-head_by : (two : Bool) (n : ℕ) (parameters results : ℕ)
-    → (codes "proc " ++ (procedure_name n ++ 32 ∷ decimal parameters))
-    ++ ((if two then 32 ∷ decimal results else []) ++ 10 ∷ [])
-    ≡ line_text (ProcLine (record {
+head_by : (two : Bool) (old : List ℕ) (n parameters results : ℕ)
+    → (((old ++ (codes "proc p" ++ decimal n)) ++ (codes " " ++ decimal parameters))
+    ++ (if two then codes " " ++ decimal results else [])) ++ 10 ∷ []
+    ≡ old ++ line_text (ProcLine (record {
       name = procedure_name n;
       parameters = decimal parameters;
       results = if two then Some (decimal results) else None;
     }))
-head_by true n parameters results = simp append_assoc
-head_by false n parameters results = refl
+head_by true old n parameters results = simp append_assoc
+head_by false old n parameters results = simp (append_assoc, append-nil)
 
-pub head_added : (version : ℕ) (n : ℕ) (q : PlanProcedure)
-    (told_version parameters results : ℕ) (old named counted new : List ℕ)
-    → named ≡ old ++ (codes "proc " ++ (procedure_name n ++ 32 ∷ decimal parameters))
-    → counted ≡ named ++ count_text told_version results → new ≡ counted ++ 10 ∷ []
-    → told_version ≡ version → parameters ≡ q.parameters → results ≡ q.results
+-- the number of results is written, or is not, by the version
+pub count_two : (numbered counted : List ℕ) (told results real : ℕ) → told ≡ 2 → results ≡ real
+    → counted ≡ numbered ++ (codes " " ++ decimal results)
+    → counted ≡ numbered ++ (if told == 2 then codes " " ++ decimal real else [])
+count_two numbered counted told results real two same count =
+    count ∙ (λ i. numbered ++ (if sym two i == 2 then codes " " ++ decimal (same i) else []))
+
+pub count_none : (numbered counted : List ℕ) (told real : ℕ) → told ≢ 2 → counted ≡ numbered
+    → counted ≡ numbered ++ (if told == 2 then codes " " ++ decimal real else [])
+count_none numbered counted told real other count =
+    count ∙ sym (append-nil numbered)
+    ∙ ap (λ (two : Bool). numbered ++ (if two then codes " " ++ decimal real else []))
+    (sym (not_equal told 2 (told == 2) refl other))
+
+pub head_added : (version : ℕ) (n : ℕ) (q : PlanProcedure) (told parameters : ℕ)
+    (old named numbered counted new : List ℕ) → named ≡ old ++ (codes "proc p" ++ decimal n)
+    → numbered ≡ named ++ (codes " " ++ decimal parameters)
+    → counted ≡ numbered ++ (if told == 2 then codes " " ++ decimal q.results else [])
+    → new ≡ counted ++ 10 ∷ [] → told ≡ version → parameters ≡ q.parameters
     → new ≡ old ++ line_text (ProcLine (head_of version n q))
-head_added version n q told parameters results old named counted new name count end of_version of_parameters of_results =
-    let front = codes "proc " ++ (procedure_name n ++ 32 ∷ decimal parameters) in
-    end ∙ ap (λ (t : List ℕ). t ++ 10 ∷ []) (count ∙ ap (λ (t : List ℕ). t ++ count_text told results) name)
-    ∙ append_assoc (old ++ front) (count_text told results) (10 ∷ [])
-    ∙ append_assoc old front (count_text told results ++ 10 ∷ [])
-    ∙ ap (λ (t : List ℕ). old ++ t) (head_by (told == 2) n parameters results)
+head_added version n q told parameters old named numbered counted new name number count end of_version of_parameters =
+    rw (end, count, number, name) (
+    head_by (told == 2) old n parameters q.results
     ∙ (λ i. old ++ line_text (ProcLine (record {
       name = procedure_name n;
       parameters = decimal (of_parameters i);
-      results = if of_version i == 2 then Some (decimal (of_results i)) else None;
-    })))
+      results = if of_version i == 2 then Some (decimal q.results) else None;
+    }))))
 
 pub procedure_added : (places : Bool) (p : Plan) (n : ℕ) (q : PlanProcedure)
     (old headed exited new : List ℕ)

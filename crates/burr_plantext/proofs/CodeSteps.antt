@@ -1,5 +1,7 @@
 -- Lines of code, one after the other.
-use Rattle.std.proofs.Common.{◌≡◌, ℕ, suc, ◌+◌, ◌-◌, ◌==◌, ◌<◌, inl, inr, Bool, true, false, Option, List, [], ◌∷◌, ◌++◌, map, take, drop, get_or, length, refl, sym, ap, ◌∙◌, subst, arith, append_assoc, append-nil, length-append, eqb-true, None, if◌then◌else◌, take_all, length-drop}
+use Rattle.std.proofs.Common.{◌≡◌, ℕ, suc, ◌+◌, ◌-◌, ◌==◌, ◌<◌, inl, inr, Bool, true, false, Option, List, [], ◌∷◌, ◌++◌, map, take, drop, get_or, length, refl, sym, ap, ◌∙◌, subst, arith, append_assoc, append-nil, length-append, eqb-true, codes, Some, None, if◌then◌else◌, take_all, length-drop}
+use Rattle.std.specs.List.{join_with_byte}
+use Rattle.std.specs.Fmt.{decimal}
 use Rattle.std.proofs.Math.Seq.{drop-append_seam}
 use Rattle.std.proofs.lemmas.Bool.{false≢true}
 use Rattle.burr_code.specs.Instruction.{Instruction, StandsAt, Begins, spelled, label_bytes}
@@ -8,14 +10,11 @@ use Rattle.burr_plantext.specs.Rules.Statements.{Statement, Byte, bares, bare_wo
 use Rattle.burr_plantext.specs.Rules.Lines.{CodeLine}
 use Rattle.burr_plantext.specs.Rules.Meaning.{statement_bytes, code_bytes, code_size}
 use Rattle.burr_plantext.specs.Rules.Listing.{MayBeListed, IsCodeListed, instruction_listed, has_names}
-use Rattle.burr_plantext.specs.Rules.Writing.{line_text}
-use Rattle.std.specs.Bool.{then_some}
-use Rattle.burr_code.specs.declared.instr.Instr.{Instr}
+use Rattle.burr_plantext.specs.Rules.Writing.{line_text, statement_words}
 use Rattle.burr_code.specs.Instruction as code
-use Rattle.burr_code.specs.Meaning.{meaning}
 use Rattle.burr_code.proofs.Common.Reading.{one_begins}
 use Rattle.burr_plantext.specs.Rules.ListedPlaces.{comment_at, code_text}
-use Rattle.burr_plantext.specs.Views.Listings.{IsFirst, IsLineAdded, IsCodeAdded}
+use Rattle.burr_plantext.specs.Views.Listings.{IsLineAdded, IsCodeAdded}
 use Rattle.burr_plantext.proofs.Common.CodeSizes.{some_bytes}
 
 -- How many bytes a line of code stands for
@@ -75,33 +74,28 @@ code_alone word = simp either refl
 
 -- The instruction with which code begins
 
-first_by : (labels procedures : ℕ) (bytes : List ℕ) (instr : Instr) (size : ℕ) (passes : Bool)
-    → StandsAt bytes 0 (meaning instr) → size ≡ length (spelled (meaning instr))
-    → passes ≡ has_names labels procedures (meaning instr)
-    → IsFirst labels procedures bytes (then_some passes (instr, size))
-first_by labels procedures bytes instr size true stands long told =
-    (record { in_range = stands.in_range; names = sym told }, stands.begins, long)
-first_by labels procedures bytes instr size false stands long told =
-    λ i may begins. let same : i ≡ meaning instr =
-    one_begins bytes i (meaning instr) may.in_range stands.in_range begins stands.begins in
-    false≢true (told ∙ ap (has_names labels procedures) (sym same) ∙ may.names)
-
-pub found_first : (labels procedures : ℕ) (bytes : List ℕ) (instr : Instr) (size : ℕ)
-    (passes : Bool) (found : Option (Instr × ℕ)) → StandsAt bytes 0 (meaning instr)
-    → size ≡ length (spelled (meaning instr))
-    → passes ≡ has_names labels procedures (meaning instr)
-    → found ≡ then_some passes (instr, size) → IsFirst labels procedures bytes found
-found_first labels procedures bytes instr size passes found stands long told e =
-    subst (λ (found : Option (Instr × ℕ)). IsFirst labels procedures bytes found) (sym e)
-    (first_by labels procedures bytes instr size passes stands long told)
+-- none may be listed where the one that is read names what is not there
+pub none_first : (labels procedures : ℕ) (bytes : List ℕ) (found : Instruction)
+    → StandsAt bytes 0 found → false ≡ has_names labels procedures found
+    → (i : Instruction) → MayBeListed labels procedures i → ¬ Begins bytes i
+none_first labels procedures bytes found stands fails i may begins =
+    let same : i ≡ found =
+    one_begins bytes i found may.in_range stands.in_range begins stands.begins in
+    false≢true (fails ∙ ap (has_names labels procedures) (sym same) ∙ may.names)
 
 -- The line of an instruction, or of a byte
 
-pub instruction_added : (labels procedures : ℕ) (bytes old new : List ℕ) (size : ℕ)
-    (i : Instruction) → MayBeListed labels procedures i → Begins bytes i
-    → size ≡ length (spelled i) → new ≡ old ++ line_text (CodeLine (instruction_listed i))
-    → IsLineAdded labels procedures bytes old new size
-instruction_added labels procedures bytes old new size i may (rest, e) long text =
+pub instruction_added : (labels procedures : ℕ) (bytes old words new : List ℕ) (size : ℕ)
+    (i : Instruction) → StandsAt bytes 0 i → true ≡ has_names labels procedures i
+    → size ≡ length (spelled i)
+    → words ≡ old ++ join_with_byte 32 (statement_words (instruction_listed i))
+    → new ≡ words ++ 10 ∷ [] → IsLineAdded labels procedures bytes old new size
+instruction_added labels procedures bytes old words new size i stands names long worded ended =
+    let may : MayBeListed labels procedures i = record { in_range = stands.in_range; names = sym names } in
+    let (rest, e) = stands.begins in
+    let text : new ≡ old ++ line_text (CodeLine (instruction_listed i)) =
+    ended ∙ ap (λ (t : List ℕ). t ++ 10 ∷ []) worded
+    ∙ append_assoc old (join_with_byte 32 (statement_words (instruction_listed i))) (10 ∷ []) in
     let after : drop size bytes ≡ rest =
     (λ j. drop (long j) (e j)) ∙ drop-append_seam (spelled i) rest in
     record {
@@ -136,6 +130,22 @@ IsCodeWritten labels procedures placed start bytes old at rest text =
     (more : List Statement) → IsCodeListed labels procedures rest more
     → (code : List Statement) × IsCodeListed labels procedures bytes code
     × (text ++ code_text placed at more ≡ old ++ code_text placed start code)
+
+-- a place is written before a line of code, where places are wanted
+pub place_marked : (placed : Option ℕ) (procedure at : ℕ) (text numbered counted marked : List ℕ)
+    → placed ≡ Some procedure → numbered ≡ text ++ (codes "; proc " ++ decimal procedure)
+    → counted ≡ numbered ++ (codes " pc " ++ decimal at) → marked ≡ counted ++ 10 ∷ []
+    → marked ≡ text ++ comment_at placed at
+place_marked placed procedure at text numbered counted marked is number count end =
+    let whole : ((text ++ (codes "; proc " ++ decimal procedure)) ++ (codes " pc " ++ decimal at)) ++ 10 ∷ []
+    ≡ text ++ comment_at (Some procedure) at = simp append_assoc in
+    end ∙ ap (λ (t : List ℕ). t ++ 10 ∷ []) (count ∙ ap (λ (t : List ℕ). t ++ (codes " pc " ++ decimal at)) number)
+    ∙ whole ∙ ap (λ (p : Option ℕ). text ++ comment_at p at) (sym is)
+
+pub place_unmarked : (placed : Option ℕ) (at : ℕ) (text : List ℕ)
+    → ((procedure : ℕ) → placed ≡ Some procedure → ⊥) → text ≡ text ++ comment_at placed at
+place_unmarked None at text none = sym (append-nil text)
+place_unmarked (Some procedure) at text none = absurd (none procedure refl)
 
 pub rest_taken : (n : ℕ) (xs : List ℕ) → take (length xs - n) (drop n xs) ≡ drop n xs
 rest_taken n xs = take_all (length xs - n) (drop n xs) (omega (arith, length-drop n xs))

@@ -16,7 +16,7 @@ use Rattle.std.proofs.lemmas.Option.{same_Some, none-some}
 use Rattle.std.proofs.lemmas.Grind.{flat_map-append}
 use Rattle.burr_code.specs.declared.placement.Placement.TheVariants.{Apart, On}
 use Rattle.burr_container.specs.Rules.Fitting.{is_form, is_between, is_coefficient, are_coefficients, is_place, is_tray}
-use Rattle.burr_plantext.proofs.Steps.{left_at}
+use Rattle.burr_plantext.proofs.Steps.{left_at, one_more}
 use Rattle.burr_plantext.proofs.Texts.Tests.{and_three}
 
 -- Forms over symbols
@@ -138,10 +138,30 @@ slot_left slots n next (Some range) e here =
     ap (slots_text n) (left_at slots n next (Some range) e here)
     ∙ ap (λ (k : ℕ). slot_text n (Some range) ++ slots_text k (drop next slots)) (sym e)
 
+pub slot_passed : (slots : List (Option Range)) (n next : ℕ) (found : Option Range)
+    (text whole : List ℕ) → next ≡ suc n → slice_get slots n ≡ Some found
+    → ((range : Range) → found ≡ Some range → ⊥) → text ++ slots_text n (drop n slots) ≡ whole
+    → text ++ slots_text next (drop next slots) ≡ whole
+slot_passed slots n next None text whole e here dead so =
+    ap (λ (t : List ℕ). text ++ t) (sym (slot_left slots n next None e here)) ∙ so
+slot_passed slots n next (Some range) text whole e here dead so = absurd (dead range refl)
+
+pub slot_turn : (slots : List (Option Range)) (n next : ℕ) (found : Option Range)
+    (range : Range) (text whole : List ℕ) → next ≡ suc n → slice_get slots n ≡ Some found
+    → found ≡ Some range → text ++ slots_text n (drop n slots) ≡ whole
+    → ((text ++ (codes "slot " ++ decimal n)) ++ range_text (codes " ") range)
+    ++ slots_text next (drop next slots) ≡ whole
+slot_turn slots n next found range text whole e here is so =
+    let line : (text ++ (codes "slot " ++ decimal n)) ++ range_text (codes " ") range
+    ≡ text ++ slot_text n (Some range) = simp append_assoc in
+    ap (λ (t : List ℕ). t ++ slots_text next (drop next slots)) line
+    ∙ one_more text (slot_text n (Some range)) (slots_text next (drop next slots)) (slots_text n (drop n slots)) whole so
+    (slot_left slots n next (Some range) e (here ∙ ap (λ (r : Option Range). Some r) is))
+
 pub result_left : (results : List Range) (n next : ℕ) (range : Range) → next ≡ suc n
     → slice_get results n ≡ Some range
     → results_text (drop n results)
-    ≡ (codes "result" ++ range_text range) ++ results_text (drop next results)
+    ≡ range_text (codes "result ") range ++ results_text (drop next results)
 result_left results n next range e here =
     ap results_text (left_at results n next range e here)
     ∙ ap (λ (t : List ℕ). (codes "result" ++ 32 ∷ t) ++ results_text (drop next results))
@@ -151,7 +171,7 @@ result_left results n next range e here =
 
 frame_parts : (f : Frame)
     → frame_text f
-    ≡ grip_text (codes "frame") f.tray f.grip ++ (slots_text 0 f.slots ++ (guards_text f.guards
+    ≡ grip_text (codes "frame ") f.tray f.grip ++ (slots_text 0 f.slots ++ (guards_text f.guards
     ++ (stack_text f.stack ++ ((codes "cost " ++ (form_word f.cost ++ 10 ∷ []))
     ++ places_text 0 f.places))))
 frame_parts f = simp (flat_map-append, append_assoc)
@@ -163,7 +183,7 @@ six_parts old a b c d e f = simp append_assoc
 pub frame_added : (f : Frame) (symbols : List ℕ) (cost : Form)
     (old gripped slotted guarded stacked costed new : List ℕ) → IsOverLive f
     → AreSymbols (live_slots f.slots) symbols → cost ≡ over_symbols (live_slots f.slots) f.cost
-    → gripped ≡ old ++ grip_text (codes "frame") f.tray f.grip
+    → gripped ≡ old ++ grip_text (codes "frame ") f.tray f.grip
     → slotted ≡ gripped ++ slots_text 0 f.slots → guarded ≡ slotted ++ guards_text f.guards
     → stacked ≡ guarded ++ stack_text f.stack
     → costed ≡ stacked ++ symbol_line (codes "cost ") symbols cost
@@ -172,8 +192,8 @@ frame_added f symbols cost old gripped slotted guarded stacked costed new over o
     let word : symbol_word symbols cost ≡ form_word f.cost =
     ap (symbol_word symbols) is ∙ word_over (live_slots f.slots) symbols f.cost own over.cost in
     rw (places, line, stack, guards, slots, grip) (
-    ap (λ (w : List ℕ). (((((old ++ grip_text (codes "frame") f.tray f.grip) ++ slots_text 0 f.slots) ++ guards_text f.guards) ++ stack_text f.stack) ++ (codes "cost " ++ (w ++ 10 ∷ []))) ++ places_text 0 f.places) word
-    ∙ six_parts old (grip_text (codes "frame") f.tray f.grip) (slots_text 0 f.slots) (guards_text f.guards) (stack_text f.stack) (codes "cost " ++ (form_word f.cost ++ 10 ∷ [])) (places_text 0 f.places)
+    ap (λ (w : List ℕ). (((((old ++ grip_text (codes "frame ") f.tray f.grip) ++ slots_text 0 f.slots) ++ guards_text f.guards) ++ stack_text f.stack) ++ (codes "cost " ++ (w ++ 10 ∷ []))) ++ places_text 0 f.places) word
+    ∙ six_parts old (grip_text (codes "frame ") f.tray f.grip) (slots_text 0 f.slots) (guards_text f.guards) (stack_text f.stack) (codes "cost " ++ (form_word f.cost ++ 10 ∷ [])) (places_text 0 f.places)
     ∙ ap (λ (t : List ℕ). old ++ t) (sym (frame_parts f)))
 
 -- The first slots as symbols

@@ -32,7 +32,7 @@ left_step piece next set odd few e is =
     ap (λ (n : ℕ). map decimal (members piece n set)) k
     ∙ (λ i. map decimal ((if is i then piece ∷ [] else []) ++ members (sym e i) (32 - next) (set / 2)))
 
-not_equal : (a b : ℕ) (t : Bool) → (a == b) ≡ t → a ≢ b → t ≡ false
+pub not_equal : (a b : ℕ) (t : Bool) → (a == b) ≡ t → a ≢ b → t ≡ false
 not_equal a b true e h = absurd (h (eqb-true a b e))
 not_equal a b false e h = refl
 

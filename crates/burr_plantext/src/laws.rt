@@ -1,6 +1,4 @@
-ghost use Rattle.burr_plantext.specs.Laws.PlanTexts.{OnePlan, FaultOrPlan, NoFaultOfPlan, OneFault};
-ghost use Rattle.burr_plantext.specs.Laws.PlanTexts.{FaultIsInText, SomeListing, OneListing};
-ghost use Rattle.burr_plantext.specs.Laws.PlanTexts.{JudgedSource, ListingStands, PlanFits};
+ghost use Rattle.burr_plantext.specs.Laws.PlanTexts.{OnePlan, FaultOrPlan, NoFaultOfPlan, OneFault, FaultIsInText, SomeListing, OneListing, JudgedSource, ListingStands, PlanFits};
 
 /// No text stands for two plans.
 pub fn a_text_has_one_plan()

@@ -32,7 +32,6 @@
 #![tactic(auto)]
 
 mod code;
-mod exits;
 mod frames;
 mod laws;
 mod listing;

@@ -1,19 +1,18 @@
 //! The text of a container's plan.
 
-ghost use Rattle.std.specs.Prelude.{◌≡◌, ◌<◌, ◌++◌, ◌∷◌, length, codes, IfOk, OnOk};
-ghost use Rattle.std.specs.Fmt.{decimal};
+ghost use Rattle.std.specs.Prelude.{◌≡◌, ◌<◌, ◌++◌, length, IfOk, OnOk};
 ghost use Rattle.burr_container.specs.Rules.Plans.{Plan};
 ghost use Rattle.burr_container.specs.Views.Containers.{IsContainer, HasPlan, OfProcedure};
 ghost use Rattle.burr_plantext.specs.Rules.Lines.{ProcLine};
-ghost use Rattle.burr_plantext.specs.Rules.Writing.{plan_word as begin_word, line_text};
-ghost use Rattle.burr_plantext.specs.Rules.Listing.{IsListing, procedure_name, head_of};
-ghost use Rattle.burr_plantext.specs.Views.Parts.{title_text, count_text, exit_text};
+ghost use Rattle.burr_plantext.specs.Rules.Writing.{line_text};
+ghost use Rattle.burr_plantext.specs.Rules.Listing.{IsListing, head_of};
+ghost use Rattle.burr_plantext.specs.Views.Parts.{title_text, exit_text};
 ghost use Rattle.burr_plantext.specs.Rules.ListedPlaces.{IsListedText, IsListingWithPlaces, HasListedLines};
 ghost use Rattle.burr_plantext.specs.Views.Listings.{IsProcedureAdded};
 
 use crate::code::add_code;
-use crate::exits::add_exit;
-use crate::numbers::{add_procedure_name, add_word, end_line};
+use crate::frames::add_exit;
+use crate::numbers::{Added, add_number, end_line};
 use burr_container::{Container, Header};
 use std::alloc::{AllocError, Global};
 
@@ -57,29 +56,21 @@ fn title(alloc: Global, header: &Header<'_>) -> Result<Vec<u8>, AllocError>
         ≡ title_text header.now.version header.now.name.now header.now.pieces
         header.now.budget) }
 {
-    let mut text = Vec::from_slice(alloc, plan_word(header.version))?;
-    text.push(b' ')?;
+    let word: &[u8] = if header.version == 2 {
+        b"plan2 "
+    } else {
+        b"plan "
+    };
+    let mut text = Vec::from_slice(alloc, word)?;
     text.extend_from_slice(header.name)?;
-    add_word(&mut text, header.pieces)?;
-    add_word(&mut text, header.budget)?;
+    add_number(&mut text, b" ", header.pieces)?;
+    add_number(&mut text, b" ", header.budget)?;
     end_line(&mut text)?;
     Ok(text)
 }
 
-/// The word with which the text of a plan of this version begins.
-fn plan_word(version: u16) -> &'static [u8]
-    ensures { result.now ≡ begin_word version }
-{
-    if version == 2 { b"plan2" } else { b"plan" }
-}
-
 /// Adds procedure i, with places or without.
-fn add_procedure(
-    text: &mut Vec<u8>,
-    container: &Container<'_>,
-    i: usize,
-    places: bool,
-) -> Result<(), AllocError>
+fn add_procedure(text: &mut Vec<u8>, container: &Container<'_>, i: usize, places: bool) -> Added
     requires procedure { i < length container.now.procedures }
     requires plan { HasPlan container.now }
     ensures { OnOk result (OfProcedure container.now i (λ p q.
@@ -91,39 +82,21 @@ fn add_procedure(
 }
 
 /// Adds the line with which procedure i begins.
-fn add_head(text: &mut Vec<u8>, container: &Container<'_>, i: usize) -> Result<(), AllocError>
+fn add_head(text: &mut Vec<u8>, container: &Container<'_>, i: usize) -> Added
     requires procedure { i < length container.now.procedures }
     ensures { OnOk result (OfProcedure container.now i (λ p q.
         text.new.items ≡ text.old.items ++ line_text (ProcLine (head_of p.version i q)))) }
 {
-    add_name(text, i, container.params(i))?;
-    add_result_count(text, container.header().version, container.results(i))?;
+    add_number(text, b"proc p", i)?;
+    add_number(text, b" ", container.params(i))?;
+    if container.header().version == 2 {
+        add_number(text, b" ", container.results(i))?;
+    }
     end_line(text)
 }
 
-/// Adds the word of a procedure's line, its name and how many parameters it has.
-fn add_name(text: &mut Vec<u8>, i: usize, parameters: u8) -> Result<(), AllocError>
-    ensures { OnOk result
-        (text.new.items
-        ≡ text.old.items ++ (codes "proc " ++ (procedure_name i ++ 32 ∷ decimal parameters))) }
-{
-    text.extend_from_slice(b"proc ")?;
-    add_procedure_name(text, i)?;
-    add_word(text, parameters)
-}
-
-/// Adds a blank and how many results a procedure has, in version 2 alone.
-fn add_result_count(text: &mut Vec<u8>, version: u16, results: u8) -> Result<(), AllocError>
-    ensures { OnOk result (text.new.items ≡ text.old.items ++ count_text version results) }
-{
-    if version != 2 {
-        return Ok(());
-    }
-    add_word(text, results)
-}
-
 /// Adds the exit frame of procedure i, if it has one.
-fn add_exit_frame(text: &mut Vec<u8>, container: &Container<'_>, i: usize) -> Result<(), AllocError>
+fn add_exit_frame(text: &mut Vec<u8>, container: &Container<'_>, i: usize) -> Added
     requires procedure { i < length container.now.procedures }
     requires plan { HasPlan container.now }
     ensures { OnOk result (OfProcedure container.now i (λ p q.

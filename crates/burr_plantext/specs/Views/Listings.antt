@@ -1,28 +1,18 @@
 -- What the code that lists adds to a text.
-use Rattle.std.specs.Prelude.{◌≡◌, ◌⊎◌, ℕ, ◌+◌, ◌<◌, ◌≤◌, List, [], ◌∷◌, ◌++◌, length, drop, Option, Some, Bool, MatchOption, slice_get}
-use Rattle.burr_code.specs.declared.instr.Instr.{Instr}
-use Rattle.burr_code.specs.Instruction.{Instruction, Begins, spelled}
-use Rattle.burr_code.specs.Meaning.{meaning}
+use Rattle.std.specs.Prelude.{◌≡◌, ◌⊎◌, ℕ, ◌+◌, ◌<◌, ◌≤◌, List, [], ◌∷◌, ◌++◌, length, drop, Option, Some, Bool, slice_get}
 use Rattle.burr_container.specs.Rules.Plans.{Frame, Plan, PlanProcedure}
 use Rattle.burr_plantext.specs.Rules.Statements.{Statement}
 use Rattle.burr_plantext.specs.Rules.Lines.{LabelLine, CodeLine}
 use Rattle.burr_plantext.specs.Rules.Sources.{Block, ProcedureSource, frame_lines}
 use Rattle.burr_plantext.specs.Rules.Meaning.{code_size}
 use Rattle.burr_plantext.specs.Rules.Writing.{text_of, line_text}
-use Rattle.burr_plantext.specs.Rules.Listing.{MayBeListed, IsListedAs, IsListedRaw, IsCodeListed, AreBlocksListed, code_after, label_name, frame_listed, IsProcedureListed}
+use Rattle.burr_plantext.specs.Rules.Listing.{IsListedAs, IsListedRaw, IsCodeListed, AreBlocksListed, code_after, label_name, frame_listed, IsProcedureListed}
 use Rattle.burr_plantext.specs.Rules.ListedPlaces.{code_text, blocks_text, procedure_text}
 
 -- where the first of labels stands, or the end of the code
 abbrev pub begin_of : ℕ → List (ℕ × Frame) → ℕ
 begin_of end [] = end
 begin_of end (label ∷ labels) = label.0
-
--- the instruction with which code begins, if all that it names is there
-abbrev pub IsFirst : ℕ → ℕ → List ℕ → Option (Instr × ℕ) → Type 0
-IsFirst labels procedures code found =
-    MatchOption found ((i : Instruction) → MayBeListed labels procedures i → ¬ Begins code i)
-    (λ found. MayBeListed labels procedures (meaning found.0) × Begins code (meaning found.0)
-    × (found.1 ≡ length (spelled (meaning found.0))))
 
 -- the first line of code is added, and stands for the first `size` bytes
 pub record IsLineAdded (labels procedures : ℕ) (code old new : List ℕ) (size : ℕ) : Type 0 where

@@ -1,5 +1,5 @@
 -- The text of the parts of a listing.
-use Rattle.std.specs.Prelude.{ℕ, List, [], ◌∷◌, ◌++◌, map, Option, Some, None, ◌==◌, if◌then◌else◌}
+use Rattle.std.specs.Prelude.{ℕ, List, [], ◌∷◌, ◌++◌, map, Option, Some, None}
 use Rattle.std.specs.Fmt.{decimal, signed_decimal}
 use Rattle.burr_code.specs.declared.placement.Placement.{Placement}
 use Rattle.burr_forms.specs.Rules.Forms.{Form}
@@ -9,14 +9,14 @@ use Rattle.burr_plantext.specs.Rules.Sources.{frame_lines, some_exit_lines}
 use Rattle.burr_plantext.specs.Rules.Writing.{line_text, text_of}
 use Rattle.burr_plantext.specs.Rules.Listing.{form_word, set_word, ends_of, slots_of, spots_of, frame_listed, exit_listed}
 
--- a tray and a grip after the word of their line
+-- a tray and a grip after the word of their line and its blank
 abbrev pub grip_text : List ℕ → ℕ → ℕ → List ℕ
-grip_text word tray set = word ++ (32 ∷ (decimal tray ++ (32 ∷ (set_word set ++ 10 ∷ []))))
+grip_text word tray set = word ++ (decimal tray ++ (32 ∷ (set_word set ++ 10 ∷ [])))
 
--- the ends of a range after the words of their line
-abbrev pub range_text : Range → List ℕ
-range_text range =
-    32 ∷ (signed_decimal range.0 ++ (32 ∷ (signed_decimal range.1 ++ 10 ∷ [])))
+-- the ends of a range after the words of their line and a blank
+abbrev pub range_text : List ℕ → Range → List ℕ
+range_text before range =
+    before ++ (signed_decimal range.0 ++ (32 ∷ (signed_decimal range.1 ++ 10 ∷ [])))
 
 -- the line of a slot, if it is live
 abbrev pub slot_text : ℕ → Option Range → List ℕ
@@ -61,7 +61,3 @@ title_text version name pieces budget =
       pieces = decimal pieces;
       budget = decimal budget;
     }))
-
--- the number of results in a procedure's line, which version 2 alone has
-abbrev pub count_text : ℕ → ℕ → List ℕ
-count_text version results = if version == 2 then 32 ∷ decimal results else []

@@ -37,6 +37,11 @@ pub record IsOverLive (f : Frame) : Type 0 where
   pub cost : IsTrue (is_form (live_slots f.slots) f.cost)
   pub places : ArePlacesOver (live_slots f.slots) f.places
 
+-- these are symbols of a frame, and all its forms are over them
+pub record HasSymbols (f : Frame) (symbols : List ℕ) : Type 0 where
+  pub own : AreSymbols (live_slots f.slots) symbols
+  pub over : IsOverLive f
+
 -- all forms of an exit frame are over these, which are the first slots
 pub record IsOverFirst (live : List Bool) (f : ExitFrame) : Type 0 where
   pub first : AreSymbols live slot_numbers

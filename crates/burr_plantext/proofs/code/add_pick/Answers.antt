@@ -1,8 +1,9 @@
 -- The next label is written.
-use Rattle.std.proofs.Common.{◌≡◌, ◌++◌, ◌+◌, arith, rules, codes}
+use Rattle.std.proofs.Common.{◌≡◌, ◌++◌, ◌+◌, arith, rules, codes, sym, ◌∙◌}
 use Rattle.burr_plantext.proofs.Steps.{one_more, got_at}
 use Rattle.burr_plantext.proofs.Offers.{pick_begun, next_offered}
 use Rattle.burr_plantext.proofs.code.add_pick.Goals as goal
+use Rattle.burr_plantext.proofs.code.add_pick.Goals.{in-Some+in_ok-add_number, in_default}
 
 pub loop-n-init : goal.loop-n-init
 loop-n-init c =
@@ -13,7 +14,12 @@ loop-n-init c =
 pub loop-n-preserved : goal.loop-n-preserved
 loop-n-preserved c =
     let n = c.loop-n.n in
-    let (label, here) = got_at c.args.labels.now n (search rules) in
-    rw (c.in_ok-add_offered.ensures label here)
-    (one_more c.loop-n.text.items _ _ _ _ c.loop-n.invariant
-    (next_offered c.args.labels.now n (n + 1) label (omega arith) here))
+    let labels = c.args.labels.now in
+    let (label, here) = got_at labels n (omega (arith, c.loop-n-test.true, c.len-n-end.ensures.count)) in
+    elim c.match-get.branch [
+      | in-Some+in_ok-add_number w ↦
+          rw (w.text-is, w.in_ok-add_number.ensures)
+          (one_more c.loop-n.text.items _ _ _ _ c.loop-n.invariant
+          (next_offered labels n (n + 1) w.in-Some.label (omega arith) (sym c.get.ensures ∙ w.in-Some.is)))
+      | in_default w ↦ absurd (w.in_default.not-Some label (c.get.ensures ∙ here))
+    ]

@@ -12,4 +12,4 @@ loop-n-preserved c =
     let n = c.loop-n.n in
     rw c.in_ok-add_form_line.ensures
     (one_more c.loop-n.text.items _ _ _ _ c.loop-n.invariant
-    (form_left GuardLine (codes "guard ") (λ w. refl) (live_slots (frame_of c.args.frame.now).slots) c.args.symbols.now (frame_of c.args.frame.now).guards n (n + 1) _ c.requires.symbols c.requires.over (omega arith) c.guard.ensures.guard))
+    (form_left GuardLine (codes "guard ") (λ w. refl) (live_slots (frame_of c.args.frame.now).slots) c.args.symbols.now (frame_of c.args.frame.now).guards n (n + 1) _ c.requires.own c.requires.over.guards (omega arith) c.guard.ensures.guard))

@@ -11,4 +11,4 @@ loop-piece-preserved c =
     let n = c.loop-piece.piece in
     rw c.in_ok-add_piece.ensures
     (one_more c.loop-piece.text.items _ _ _ _ c.loop-piece.invariant
-    (place_left (live_slots (frame_of c.args.frame.now).slots) c.args.symbols.now (frame_of c.args.frame.now).places n (n + 1) _ c.requires.symbols c.requires.over (omega arith) c.place.ensures.place))
+    (place_left (live_slots (frame_of c.args.frame.now).slots) c.args.symbols.now (frame_of c.args.frame.now).places n (n + 1) _ c.requires.own c.requires.over.places (omega arith) c.place.ensures.place))

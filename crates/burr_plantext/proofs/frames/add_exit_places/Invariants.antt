@@ -2,7 +2,7 @@
 use Rattle.std.proofs.Common.{◌≡◌, ◌++◌, drop}
 use Rattle.burr_container.specs.Views.Refs.{exit_frame_of}
 use Rattle.burr_plantext.specs.Views.Parts.{places_text}
-use Rattle.burr_plantext.proofs.exits.add_places.Given as goal
+use Rattle.burr_plantext.proofs.frames.add_exit_places.Given as goal
 
 abbrev pub invariant-loop-piece : goal.invariant-loop-piece
 invariant-loop-piece l =

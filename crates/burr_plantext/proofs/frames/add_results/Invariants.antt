@@ -2,7 +2,7 @@
 use Rattle.std.proofs.Common.{◌≡◌, ◌++◌, drop}
 use Rattle.burr_container.specs.Views.Refs.{exit_frame_of}
 use Rattle.burr_plantext.specs.Views.Parts.{results_text}
-use Rattle.burr_plantext.proofs.exits.add_results.Given as goal
+use Rattle.burr_plantext.proofs.frames.add_results.Given as goal
 
 abbrev pub invariant-loop-n : goal.invariant-loop-n
 invariant-loop-n l =
