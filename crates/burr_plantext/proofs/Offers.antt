@@ -1,5 +1,5 @@
 -- The labels of an offer, one after the other.
-use Rattle.std.proofs.Common.{◌≡◌, ℕ, suc, Bool, false, ◌&&◌, Some, List, [], ◌∷◌, ◌++◌, map, drop, refl, sym, ap, ◌∙◌, append_assoc, append-nil, slice_get, codes, nat_lt}
+use Rattle.std.proofs.Common.{◌≡◌, ℕ, suc, ◌≤◌, Bool, true, false, ◌&&◌, Some, List, [], ◌∷◌, ◌++◌, map, drop, refl, sym, ap, ◌∙◌, append_assoc, append-nil, slice_get, codes, nat_lt, ltb-true, arith}
 use Rattle.std.specs.List.{join_with_byte, flat_map, list_all}
 use Rattle.burr_plantext.specs.Rules.Listing.{label_name}
 use Rattle.burr_plantext.proofs.Steps.{left_at}
@@ -35,12 +35,16 @@ pub all_left : (labels : List ℕ) (many n next label : ℕ) → next ≡ suc n
 all_left labels many n next label e here =
     ap (λ (ls : List ℕ). list_all (λ label. nat_lt label many) ls) (left_at labels n next label e here)
 
-pub all_fails : (labels : List ℕ) (many n label : ℕ) (passes : Bool)
-    → slice_get labels n ≡ Some label → passes ≡ nat_lt label many → passes ≡ false
+not_below : (a b : ℕ) (t : Bool) → nat_lt a b ≡ t → b ≤ a → t ≡ false
+not_below a b true e h = absurd (omega (arith, ltb-true a b e, h))
+not_below a b false e h = refl
+
+pub all_fails : (labels : List ℕ) (many n label : ℕ) → slice_get labels n ≡ Some label
+    → many ≤ label
     → list_all (λ label. nat_lt label many) labels
     ≡ list_all (λ label. nat_lt label many) (drop n labels)
     → false ≡ list_all (λ label. nat_lt label many) labels
-all_fails labels many n label passes here told fails so =
+all_fails labels many n label here past so =
     sym (so ∙ all_left labels many n (suc n) label refl here
     ∙ ap (λ (t : Bool). t && list_all (λ label. nat_lt label many) (drop (suc n) labels))
-    (sym told ∙ fails))
+    (not_below label many (nat_lt label many) refl past))

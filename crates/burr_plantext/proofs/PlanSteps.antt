@@ -1,5 +1,5 @@
 -- What a container has of its plan: procedures, labels and frames within the format.
-use Rattle.std.proofs.Common.{◌≡◌, ℕ, zero, suc, ◌+◌, ◌<◌, ◌≤◌, ◌&&◌, ◌==◌, nat_le, nat_lt, Bool, true, false, IsTrue, Option, Some, None, List, [], ◌∷◌, ◌++◌, length, refl, sym, ap, ◌∙◌, subst, arith, eqb-true, ltb-true, leb-true, slice_get}
+use Rattle.std.proofs.Common.{◌≡◌, ℕ, zero, suc, ◌+◌, ◌<◌, ◌≤◌, ◌&&◌, ◌==◌, nat_le, nat_lt, Bool, true, false, IsTrue, Option, Some, None, List, [], ◌∷◌, ◌++◌, length, refl, sym, ap, ◌∙◌, subst, arith, append-nil, eqb-true, ltb-true, leb-true, slice_get}
 use Rattle.std.specs.List.{list_all}
 use Rattle.std.proofs.lemmas.Bool.{and_parts, false≢true}
 use Rattle.burr_code.specs.declared.limits.TheConstants.{MOST_LABELS, SLOTS, MOST_GUARDS, MOST_OPERANDS}
@@ -188,10 +188,11 @@ exit_same pieces parameters results (Some kept) exit (Some f) h e =
     (f, refl, subst (λ (kept : ExitRef). IsExitFrame pieces parameters results kept f) (same_Some kept exit e) h)
 
 pub no_exit : (pieces parameters results : ℕ) (found : Option ExitRef) (is : Option ExitFrame)
-    → IsExit pieces parameters results found is → found ≡ None → exit_text is ≡ []
-no_exit pieces parameters results None None h e = refl
-no_exit pieces parameters results None (Some f) h e = absurd h
-no_exit pieces parameters results (Some kept) is h e = absurd (none-some kept (sym e))
+    (text : List ℕ) → IsExit pieces parameters results found is
+    → ((exit : ExitRef) → found ≡ Some exit → ⊥) → text ≡ text ++ exit_text is
+no_exit pieces parameters results None None text h none = sym (append-nil text)
+no_exit pieces parameters results None (Some f) text h none = absurd h
+no_exit pieces parameters results (Some kept) is text h none = absurd (none kept refl)
 
 pub exit_of_procedure : (kept : ContainerView) (i : ℕ) (found : Option ExitRef) (exit : ExitRef)
     → HasPlan kept → i < length kept.procedures

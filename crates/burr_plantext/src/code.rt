@@ -1,6 +1,6 @@
 //! The labels and the code of a procedure, added to a text.
 
-ghost use Rattle.std.specs.Prelude.{◌≡◌, ◌<◌, ◌≤◌, ◌+◌, [], ◌∷◌, ◌++◌, ℕ, length, drop, slice_get, OnOk, IfOk, IfSome, MatchOption, Some, None, if◌then◌else◌, nat_lt, map, codes};
+ghost use Rattle.std.specs.Prelude.{◌≡◌, ◌<◌, ◌≤◌, ◌+◌, [], ◌∷◌, ◌++◌, length, drop, OnOk, IfOk, IfSome, MatchOption, Some, None, if◌then◌else◌, nat_lt, map, codes};
 ghost use Rattle.std.specs.List.{list_all, join_with_byte};
 ghost use Rattle.burr_code.specs.Instruction.{IsInRange, spelled};
 ghost use Rattle.burr_code.specs.Meaning.{meaning};
@@ -135,36 +135,22 @@ impl Reach {
         ensures { result ≡ has_names self.labels self.procedures (meaning instr.now) }
     {
         match instr {
-            Instr::Jump(label) | Instr::Down(_, label) => self.has_label(*label),
+            Instr::Jump(label) | Instr::Down(_, label) => usize::from(*label) < self.labels,
             Instr::Pick(labels) => self.has_labels(labels),
             Instr::Call(procedure) => usize::from(*procedure) < self.procedures,
             _ => true,
         }
     }
 
-    fn has_label(self, label: u16) -> bool
-        ensures { result ≡ nat_lt label self.labels }
-    {
-        usize::from(label) < self.labels
-    }
-
     fn has_labels(self, labels: &Labels<'_>) -> bool
         ensures { result ≡ list_all (λ label. nat_lt label self.labels) labels.now }
     {
         for n in 0..labels.len() {
-            if !self.has_offered(labels, n) {
+            if !matches!(labels.get(n), Some(label) if usize::from(label) < self.labels) {
                 return false;
             }
         }
         true
-    }
-
-    /// Whether the label of this number that is offered is there.
-    fn has_offered(self, labels: &Labels<'_>, n: usize) -> bool
-        ensures { (label : ℕ) → slice_get labels.now n ≡ Some label
-            → result ≡ nat_lt label self.labels }
-    {
-        labels.get(n).is_some_and(|label| self.has_label(label))
     }
 }
 

@@ -6,7 +6,7 @@ ghost use Rattle.burr_container.specs.Views.Containers.{IsContainer, HasPlan, Of
 ghost use Rattle.burr_plantext.specs.Rules.Lines.{ProcLine};
 ghost use Rattle.burr_plantext.specs.Rules.Writing.{line_text};
 ghost use Rattle.burr_plantext.specs.Rules.Listing.{IsListing, head_of};
-ghost use Rattle.burr_plantext.specs.Views.Parts.{title_text, exit_text};
+ghost use Rattle.burr_plantext.specs.Views.Parts.{title_text};
 ghost use Rattle.burr_plantext.specs.Rules.ListedPlaces.{IsListedText, IsListingWithPlaces, HasListedLines};
 ghost use Rattle.burr_plantext.specs.Views.Listings.{IsProcedureAdded};
 
@@ -77,7 +77,9 @@ fn add_procedure(text: &mut Vec<u8>, container: &Container<'_>, i: usize, places
         IsProcedureAdded places p i q text.old.items text.new.items)) }
 {
     add_head(text, container, i)?;
-    add_exit_frame(text, container, i)?;
+    if let Some(exit) = container.exit(i) {
+        add_exit(text, &exit)?;
+    }
     add_code(text, container, i, places)
 }
 
@@ -93,17 +95,4 @@ fn add_head(text: &mut Vec<u8>, container: &Container<'_>, i: usize) -> Added
         add_number(text, b" ", container.results(i))?;
     }
     end_line(text)
-}
-
-/// Adds the exit frame of procedure i, if it has one.
-fn add_exit_frame(text: &mut Vec<u8>, container: &Container<'_>, i: usize) -> Added
-    requires procedure { i < length container.now.procedures }
-    requires plan { HasPlan container.now }
-    ensures { OnOk result (OfProcedure container.now i (λ p q.
-        text.new.items ≡ text.old.items ++ exit_text q.exit)) }
-{
-    match container.exit(i) {
-        None => Ok(()),
-        Some(exit) => add_exit(text, &exit),
-    }
 }

@@ -1,5 +1,4 @@
 -- The line is that of the instruction, or of the first byte.
-use Rattle.std.proofs.Common.{◌≡◌}
 use Rattle.burr_code.specs.Instruction.{Instruction, Begins}
 use Rattle.burr_code.specs.Meaning.{meaning}
 use Rattle.burr_plantext.specs.Rules.Listing.{MayBeListed}
