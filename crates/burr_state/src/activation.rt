@@ -17,12 +17,12 @@ use std::marker::Model;
 #[derive(Debug, Drop)]
 pub struct Activation {
     /// The procedure's number.
-    procedure: u8,
+    pub(crate) procedure: u8,
     /// Where the next instruction stands in the procedure's code.
-    pc: usize,
-    slots: [Option<i32>; SLOTS],
+    pub(crate) pc: usize,
+    pub(crate) slots: [Option<i32>; SLOTS],
     /// The operands, the bottom first.
-    operands: ArrayVec<i32, MOST_OPERANDS>,
+    pub(crate) operands: ArrayVec<i32, MOST_OPERANDS>,
 }
 
 impl Model for Activation {
@@ -35,25 +35,6 @@ impl Model for Activation {
 }
 
 impl Activation {
-    /// Main at its begin: empty slots and no operands.
-    pub fn main() -> Activation
-        ensures { result ≡ activation 0 0 (replicate 8 None) [] }
-    {
-        Activation {
-            procedure: 0,
-            pc: 0,
-            slots: [None; SLOTS],
-            operands: ArrayVec::new(),
-        }
-    }
-
-    /// The procedure's number.
-    pub fn procedure(&self) -> u8
-        ensures { result ≡ self.now.procedure }
-    {
-        self.procedure
-    }
-
     /// The value of a slot; None where it is empty.
     pub fn slot(&self, slot: u8) -> Option<i32>
         requires { slot < SLOTS }
@@ -68,13 +49,6 @@ impl Activation {
         ensures { self.new ≡ with_slot slot number self.old }
     {
         self.slots[usize::from(slot)] = Some(number);
-    }
-
-    /// The operands, the bottom first.
-    pub fn operands(&self) -> &[i32]
-        ensures { result.now ≡ reverse self.now.operands }
-    {
-        self.operands.as_slice()
     }
 
     /// Whether the operands have room for one more.
@@ -122,13 +96,6 @@ impl Activation {
         self.operands.push(number);
     }
 
-    /// Where the next instruction stands.
-    pub fn pc(&self) -> usize
-        ensures { result ≡ self.now.pc }
-    {
-        self.pc
-    }
-
     /// Calls a procedure that has this many parameters and results: takes its arguments off the
     /// operands, the top as the last one, and gives the activation of the procedure. It traps with
     /// `MissingOperand` where there are fewer operands than parameters, and with `StackFull` where
@@ -170,9 +137,7 @@ impl Activation {
         ensures { self.new
             ≡ with_operands (reverse numbers.now ++ self.old.operands) self.old }
     {
-        if self.operands.try_extend_from_slice(numbers).is_err() {
-            unreachable!();
-        }
+        self.operands.try_extend_from_slice(numbers).unwrap();
     }
 
     /// The same activation.
@@ -183,39 +148,8 @@ impl Activation {
             procedure: self.procedure,
             pc: self.pc,
             slots: self.slots,
-            operands: self.copied_operands(),
+            operands: ArrayVec::try_from(self.operands.as_slice()).unwrap(),
         }
-    }
-
-    /// The slots.
-    pub fn slots(&self) -> [Option<i32>; SLOTS]
-        ensures { result ≡ self.now.slots }
-    {
-        self.slots
-    }
-
-    /// The operands, the bottom first.
-    pub fn copied_operands(&self) -> ArrayVec<i32, MOST_OPERANDS>
-        ensures { reverse result.items ≡ self.now.operands }
-    {
-        let Ok(operands) = ArrayVec::try_from(self.operands.as_slice()) else {
-            unreachable!();
-        };
-        operands
-    }
-
-    /// Puts these slots in place of its own.
-    pub fn set_slots(&mut self, slots: [Option<i32>; SLOTS])
-        ensures { self.new ≡ record self.old { slots = slots } }
-    {
-        self.slots = slots;
-    }
-
-    /// Puts these operands, the bottom first, in place of its own.
-    pub fn set_operands(&mut self, operands: ArrayVec<i32, MOST_OPERANDS>)
-        ensures { self.new ≡ with_operands (reverse operands.items) self.old }
-    {
-        self.operands = operands;
     }
 
     /// Takes the topmost `count` operands off, or all where there are fewer.
@@ -224,13 +158,6 @@ impl Activation {
     {
         let kept = self.operands.len().saturating_sub(usize::from(count));
         self.operands.truncate(kept);
-    }
-
-    /// Goes on at another place of the code.
-    pub fn go_to(&mut self, pc: usize)
-        ensures { self.new ≡ record self.old { pc = pc } }
-    {
-        self.pc = pc;
     }
 }
 
@@ -249,8 +176,14 @@ fn slots_of(numbers: &[i32]) -> [Option<i32>; SLOTS]
 impl Default for Activation {
     ghost is_default = { λ a. a ≡ activation 0 0 (replicate 8 None) [] };
 
+    /// Main at its begin: empty slots and no operands.
     fn default() -> Activation {
-        Activation::main()
+        Activation {
+            procedure: 0,
+            pc: 0,
+            slots: [None; SLOTS],
+            operands: ArrayVec::new(),
+        }
     }
 }
 

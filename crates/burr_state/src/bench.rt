@@ -58,7 +58,10 @@ impl<'a> Bench<'a> {
             → result.program ≡ plan_program p }
         ensures start { result.state ≡ at_start pieces }
     {
-        Bench::start(Program::of(container), pieces)
+        Bench {
+            program: Program::of(container),
+            state: BenchState::start(pieces),
+        }
     }
 
     /// Bare code of at most 4,096 bytes before its first step, with this many pieces: one procedure
@@ -69,7 +72,10 @@ impl<'a> Bench<'a> {
         ensures program { result.program ≡ bare_program code.entry.now }
         ensures start { result.state ≡ at_start pieces }
     {
-        Bench::start(Program::bare(code), pieces)
+        Bench {
+            program: Program::bare(code),
+            state: BenchState::start(pieces),
+        }
     }
 
     /// Goes back to before the first step of the program, with this many pieces.
@@ -80,21 +86,6 @@ impl<'a> Bench<'a> {
         self.state = BenchState::start(pieces);
     }
 
-    /// A program before its first step.
-    fn start(program: Program<'a>, pieces: u8) -> Bench<'a>
-        requires main { 0 < length program.procedures }
-        requires few { pieces ≤ 32 }
-        ensures program { result.program ≡ program.entry }
-        ensures start { result.state ≡ at_start pieces }
-    {
-        Bench {
-            program,
-            state: BenchState::start(pieces),
-        }
-    }
-}
-
-impl<'a> Bench<'a> {
     /// Where the run stands.
     pub fn state(&self) -> &BenchState
         ensures { result.now ≡ self.now.state }
@@ -119,10 +110,7 @@ impl<'a> Bench<'a> {
     {
         self.program.procedure(procedure)?.label(label)
     }
-}
 
-// What a run asks the operator.
-impl Bench<'_> {
     /// The question for which the run waits: the least and the greatest number that answer it; None
     /// where it waits for none.
     pub fn question(&self) -> Option<(i32, i32)>
@@ -132,9 +120,7 @@ impl Bench<'_> {
         if self.state.mode() != Mode::Running {
             return None;
         }
-        let Some(procedure) = self.program.procedure(self.state.procedure()) else {
-            unreachable!();
-        };
+        let procedure = self.program.procedure(self.state.procedure()).unwrap();
         let (instruction, _) = fetch(procedure.code(), self.state.pc())?;
         match instruction {
             Instr::Ask(low, high) => question_of(self.state.ask(low, high)),
@@ -142,27 +128,13 @@ impl Bench<'_> {
             _other => None,
         }
     }
-}
 
-/// The question that an instruction came to; None where it came to something else.
-fn question_of(outcome: Result<Effect, Trap>) -> Option<(i32, i32)>
-    ensures { result ≡ question_in outcome }
-{
-    match outcome {
-        Ok(Effect::Asks(low, high)) => Some((low, high)),
-        Ok(Effect::Goes(_)) | Err(_) => None,
-    }
-}
-
-impl<'a> Bench<'a> {
     /// The next instruction, and how many bytes it has; None where no instruction stands there.
     pub fn next(&self) -> Option<(Instr<'a>, usize)>
         ensures { MatchOption result ((i : Instruction) → ¬ StandsBefore self.now i)
             (λ next. IsNext self.now (meaning next.0) next.1) }
     {
-        let Some(procedure) = self.program.procedure(self.state.procedure()) else {
-            unreachable!();
-        };
+        let procedure = self.program.procedure(self.state.procedure()).unwrap();
         fetch(procedure.code(), self.state.pc())
     }
 
@@ -178,9 +150,7 @@ impl<'a> Bench<'a> {
         ensures pieces { PiecesStay self.old.state self.new.state }
         ensures program { self.new.program ≡ self.old.program }
     {
-        let Some(procedure) = self.program.procedure(self.state.procedure()) else {
-            unreachable!();
-        };
+        let procedure = self.program.procedure(self.state.procedure()).unwrap();
         self.state
             .execute(instruction, procedure, &self.program, size)
     }
@@ -233,10 +203,7 @@ impl<'a> Bench<'a> {
             out,
         }
     }
-}
 
-// Answers of the operator.
-impl Bench<'_> {
     /// Takes an answer where the next instruction asks for one that it fits; else nothing changes.
     /// Whether it is taken.
     pub fn take(&mut self, answer: i32) -> bool
@@ -245,9 +212,7 @@ impl Bench<'_> {
         ensures stays { StaysPut self.old.state self.new.state }
         ensures program { self.new.program ≡ self.old.program }
     {
-        let Some(procedure) = self.program.procedure(self.state.procedure()) else {
-            unreachable!();
-        };
+        let procedure = self.program.procedure(self.state.procedure()).unwrap();
         let Some((instruction, size)) = fetch(procedure.code(), self.state.pc()) else {
             return false;
         };
@@ -257,10 +222,7 @@ impl Bench<'_> {
             _other => false,
         }
     }
-}
 
-// Runs that are let lie, and gone on with.
-impl<'a> Bench<'a> {
     /// What the bench runs.
     pub fn program(&self) -> &Program<'a>
         ensures { result.now ≡ self.now.program }
@@ -273,8 +235,7 @@ impl<'a> Bench<'a> {
         ensures state { result ≡ self.entry.state }
         ensures fits { FitsProgram self.entry.program.procedures result }
     {
-        let Bench { program: _, state } = self;
-        Suspended { state }
+        Suspended { state: self.state }
     }
 
     /// A program at work, where a run of it was suspended, the caller's condition.
@@ -287,10 +248,7 @@ impl<'a> Bench<'a> {
             state: suspended.state,
         }
     }
-}
 
-// Records of steps, and going back by them.
-impl Bench<'_> {
     /// The record of the step that the next instruction makes: what the step will change, as it is
     /// now.
     pub fn record(&self, instruction: &Instr<'_>) -> Undo
@@ -299,10 +257,8 @@ impl Bench<'_> {
             → IsRecordOf (running homes self.now.program) self.now.state result }
         ensures state { IsWorkState self.now.program.procedures self.now.state }
     {
-        let Some(procedure) = self.program.procedure(self.state.procedure()) else {
-            unreachable!();
-        };
-        self.state.record(instruction, procedure.results())
+        let procedure = self.program.procedure(self.state.procedure()).unwrap();
+        self.state.record(instruction, procedure)
     }
 
     /// Goes back a step: lays the old values of its record over the state, where that gives a state
@@ -313,5 +269,15 @@ impl Bench<'_> {
         ensures program { self.new.program ≡ self.old.program }
     {
         self.state.undo(undo);
+    }
+}
+
+/// The question that an instruction came to; None where it came to something else.
+fn question_of(outcome: Result<Effect, Trap>) -> Option<(i32, i32)>
+    ensures { result ≡ question_in outcome }
+{
+    match outcome {
+        Ok(Effect::Asks(low, high)) => Some((low, high)),
+        Ok(Effect::Goes(_)) | Err(_) => None,
     }
 }

@@ -2,11 +2,9 @@ ghost use Rattle.burr_state.specs.Rules.Undo.{RecordsGoBack, RecordsTell};
 ghost use Rattle.burr_state.specs.Laws.AsideLaws.{GroupGoesAside};
 ghost use Rattle.burr_state.specs.Laws.MotionLaws.{TraysAreFew, MotionsAreOfPieces, MotionsAreWithinBudget};
 ghost use Rattle.burr_state.specs.Laws.PartLaws.{PartsAreCounted};
-ghost use Rattle.burr_state.specs.Laws.SpaceLaws.{GripStays, NoOverlapStays, NoneLoneStays};
-ghost use Rattle.burr_state.specs.Laws.SpaceLaws.{HomesAreDisjoint, GripIsHere, PiecesNeverOverlap, NoPieceIsLone};
+ghost use Rattle.burr_state.specs.Laws.SpaceLaws.{GripStays, NoOverlapStays, NoneLoneStays, HomesAreDisjoint, GripIsHere, PiecesNeverOverlap, NoPieceIsLone};
 ghost use Rattle.burr_state.specs.Laws.StepLaws.{SomeExecution, OneExecution, CallIsOneStep};
-ghost use Rattle.burr_state.specs.Laws.RunLaws.{OneNext, SomeNext, OneCall, SomeCall};
-ghost use Rattle.burr_state.specs.Laws.RunLaws.{OneResult, SomeResult, RunIsCalls, MoreAnswersGoOn};
+ghost use Rattle.burr_state.specs.Laws.RunLaws.{OneNext, SomeNext, OneCall, SomeCall, OneResult, SomeResult, RunIsCalls, MoreAnswersGoOn};
 
 /// Each instruction, carried out at any state, has one effect.
 pub fn an_instruction_has_one_effect()

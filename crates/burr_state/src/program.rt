@@ -51,6 +51,19 @@ impl<'a> Procedure<'a> {
         }
     }
 
+    /// The procedure of a container with this number.
+    fn of<'c: 'a>(container: &Container<'c>, number: usize) -> Procedure<'a>
+        requires { number < length container.now.procedures }
+        ensures { OfProcedure container.now number (λ p q. result ≡ bench_procedure q) }
+    {
+        Procedure {
+            parameters: container.params(number),
+            results: container.results(number),
+            labels: label_positions(container, number),
+            code: container.code(number),
+        }
+    }
+
     /// How many parameters it has.
     pub fn parameters(&self) -> u8
         ensures { result ≡ self.now.parameters }
@@ -85,15 +98,24 @@ impl<'a> Procedure<'a> {
         ensures { IsTrue result ↔ HasLabels self.now.labels offer.now }
     {
         for number in 0..offer.len() {
-            let Some(label) = offer.get(number) else {
-                unreachable!();
-            };
-            if self.labels.len() <= usize::from(label) {
+            if self.labels.len() <= usize::from(offer.get(number).unwrap()) {
                 return false;
             }
         }
         true
     }
+}
+
+/// The positions of a procedure's labels.
+fn label_positions(container: &Container<'_>, number: usize) -> ArrayVec<u16, MOST_LABELS>
+    requires { number < length container.now.procedures }
+    ensures { OfProcedure container.now number (λ p q. result.items ≡ positions_of q.labels) }
+{
+    let mut positions = ArrayVec::new();
+    for label in 0..container.label_count(number) {
+        positions.push(container.label(number, label));
+    }
+    positions
 }
 
 impl<'a> Default for Procedure<'a> {
@@ -135,6 +157,21 @@ impl<'a> Program<'a> {
         Program {
             procedures,
             budget: MOST_BUDGET,
+        }
+    }
+
+    /// The program of a container: its procedures and its budget.
+    pub fn of<'c: 'a>(container: &Container<'c>) -> Program<'a>
+        ensures plan { (p : Plan) → IsContainer container.now p → result ≡ plan_program p }
+        ensures some { 0 < length result.procedures }
+    {
+        let mut procedures = ArrayVec::new();
+        for number in 0..container.proc_count() {
+            procedures.push(Procedure::of(container, number));
+        }
+        Program {
+            procedures,
+            budget: container.header().budget,
         }
     }
 
@@ -184,15 +221,11 @@ impl OwnedProcedure {
     fn of(alloc: Global, procedure: &Procedure<'_>) -> Result<OwnedProcedure, AllocError>
         ensures { IfOk result (λ kept. kept ≡ procedure.now) }
     {
-        let code = procedure.code.to_vec(alloc)?;
-        let Ok(labels) = ArrayVec::try_from(procedure.labels.as_slice()) else {
-            unreachable!();
-        };
         Ok(OwnedProcedure {
             parameters: procedure.parameters,
             results: procedure.results,
-            labels,
-            code,
+            labels: ArrayVec::try_from(procedure.labels.as_slice()).unwrap(),
+            code: procedure.code.to_vec(alloc)?,
         })
     }
 
@@ -200,13 +233,10 @@ impl OwnedProcedure {
     fn lend(&self) -> Procedure<'_>
         ensures { result ≡ self.entry.now }
     {
-        let Ok(labels) = ArrayVec::try_from(self.labels.as_slice()) else {
-            unreachable!();
-        };
         Procedure {
             parameters: self.parameters,
             results: self.results,
-            labels,
+            labels: ArrayVec::try_from(self.labels.as_slice()).unwrap(),
             code: &self.code,
         }
     }
@@ -259,51 +289,6 @@ impl OwnedProgram {
         Program {
             procedures,
             budget: self.budget,
-        }
-    }
-}
-
-// The program of a container.
-impl<'a> Procedure<'a> {
-    /// The procedure of a container with this number.
-    fn of<'c: 'a>(container: &Container<'c>, number: usize) -> Procedure<'a>
-        requires { number < length container.now.procedures }
-        ensures { OfProcedure container.now number (λ p q. result ≡ bench_procedure q) }
-    {
-        Procedure {
-            parameters: container.params(number),
-            results: container.results(number),
-            labels: label_positions(container, number),
-            code: container.code(number),
-        }
-    }
-}
-
-/// The positions of a procedure's labels.
-fn label_positions(container: &Container<'_>, number: usize) -> ArrayVec<u16, MOST_LABELS>
-    requires { number < length container.now.procedures }
-    ensures { OfProcedure container.now number (λ p q. result.items ≡ positions_of q.labels) }
-{
-    let mut positions = ArrayVec::new();
-    for label in 0..container.label_count(number) {
-        positions.push(container.label(number, label));
-    }
-    positions
-}
-
-impl<'a> Program<'a> {
-    /// The program of a container: its procedures and its budget.
-    pub fn of<'c: 'a>(container: &Container<'c>) -> Program<'a>
-        ensures plan { (p : Plan) → IsContainer container.now p → result ≡ plan_program p }
-        ensures some { 0 < length result.procedures }
-    {
-        let mut procedures = ArrayVec::new();
-        for number in 0..container.proc_count() {
-            procedures.push(Procedure::of(container, number));
-        }
-        Program {
-            procedures,
-            budget: container.header().budget,
         }
     }
 }

@@ -5,20 +5,20 @@ mod undoing;
 ghost use Rattle.std.specs.Prelude.{◌≡◌, ◌≢◌, ◌≤◌, ◌<◌, ◌+◌, ℕ, length, IfSome, Some, None, slice_get, get_or, reverse, ◌↔◌, IsTrue, pos};
 ghost use Rattle.burr_voxels.specs.Near.{IsWithin};
 ghost use Rattle.burr_code.specs.declared.limits.TheConstants.{MOST_OFFSET, MOST_CODE, MOST_PIECES, SLOTS};
-ghost use Rattle.burr_code.specs.PieceSets.{IsInSet};
 ghost use Rattle.burr_code.specs.Places.{AllLieIn, AllApart, IsPartOfTray, IsEmptyTray, at_position};
 ghost use Rattle.burr_state.specs.Views.StateViews.{at_start, IsOffsetHere, StaysOnBench, PieceStaysOnBench, after, moved_grip, gone_aside};
 ghost use Rattle.burr_state.specs.Views.Offsets.{AreNear, PositionHolds};
 ghost use Rattle.burr_state.specs.declared.effect.Mode.TheVariants.{Trapped};
-ghost use Rattle.burr_code.specs.declared.placement.Placement.TheVariants.{On};
-ghost use Rattle.burr_voxels.specs.Grid.{along, plus, origin};
+ghost use Rattle.burr_voxels.specs.Grid.{along, plus};
 ghost use Rattle.burr_state.specs.Rules.Space.{moved_places};
 
 use crate::activation::Activation;
 use crate::effect::{Mode, Trap};
 use arrayvec::ArrayVec;
 use burr_code::limits::{MOST_OFFSET, MOST_PIECES, MOST_PROCEDURES};
-use burr_code::{Placement, all_lie_in, are_all_apart, is_empty_tray, is_part_of_tray, take_aside};
+use burr_code::{
+    Placement, all_lie_in, are_all_apart, is_empty_tray, is_in_set, is_part_of_tray, take_aside,
+};
 use burr_voxels::{Cell, Direction};
 use std::marker::Model;
 
@@ -65,13 +65,16 @@ impl BenchState {
     {
         let mut places = ArrayVec::new();
         for _piece in 0..pieces {
-            places.push(home(0));
+            places.push(Placement::On {
+                tray: 0,
+                position: Cell::ORIGIN,
+            });
         }
         BenchState {
             places,
             tray: 0,
             grip: 0,
-            running: Activation::main(),
+            running: Activation::default(),
             callers: ArrayVec::new(),
             steps: 0,
             mode: Mode::Running,
@@ -110,7 +113,7 @@ impl BenchState {
     pub fn procedure(&self) -> u8
         ensures { result ≡ self.now.running.procedure }
     {
-        self.running.procedure()
+        self.running.procedure
     }
 
     /// Where the next instruction stands in the running procedure's code, within 16 bits.
@@ -118,7 +121,7 @@ impl BenchState {
         ensures pc { result ≡ self.now.running.pc }
         ensures within { result < 65536 }
     {
-        self.running.pc()
+        self.running.pc
     }
 
     /// The number of pieces, at most 32. Each that isn't apart lies within 256 of home.
@@ -150,7 +153,7 @@ impl BenchState {
     pub fn operands(&self) -> &[i32]
         ensures { result.now ≡ reverse self.now.running.operands }
     {
-        self.running.operands()
+        self.running.operands.as_slice()
     }
 
     /// Where a piece is: apart, or in a tray, 0 to 31, and how far from home it lies there. Its
@@ -170,9 +173,7 @@ impl BenchState {
     {
         self.places.get(usize::from(piece))?.position_in(self.tray)
     }
-}
 
-impl BenchState {
     /// Whether each piece of a set lies in the current tray.
     pub fn all_lie_here(&self, set: u32) -> bool
         ensures { IsTrue result ↔ AllLieIn self.now.places self.now.tray set }
@@ -192,10 +193,8 @@ impl BenchState {
     pub fn stays_on_bench(&self, direction: Direction) -> bool
         ensures { IsTrue result ↔ StaysOnBench self.now direction }
     {
-        let mut rest = self.grip;
-        while rest != 0 {
-            let piece = take_lowest(&mut rest);
-            if !self.piece_stays_on_bench(piece, direction) {
+        for piece in 0..self.places.len() as u8 {
+            if is_in_set(self.grip, piece) && !self.piece_stays_on_bench(piece, direction) {
                 return false;
             }
         }
@@ -225,9 +224,7 @@ impl BenchState {
     {
         are_all_apart(self.places.as_slice())
     }
-}
 
-impl BenchState {
     /// A trap: nothing but the mode changes.
     pub(crate) fn trap(&mut self, trap: Trap)
         ensures { self.new ≡ record self.old { mode = Trapped trap } }
@@ -262,18 +259,8 @@ impl BenchState {
         requires within { self.old.running.pc + size ≤ MOST_CODE }
         ensures { self.new ≡ after size self.old }
     {
-        self.running.go_to(self.running.pc() + size);
+        self.running.pc += size;
         self.steps = self.steps.saturating_add(1);
-    }
-}
-
-/// The place of a piece at home in a tray.
-pub fn home(tray: u8) -> Placement<Cell>
-    ensures { result ≡ On tray origin }
-{
-    Placement::On {
-        tray,
-        position: Cell::ORIGIN,
     }
 }
 
@@ -314,41 +301,15 @@ pub fn is_on_bench(offset: Cell) -> bool
     -most <= offset.z && offset.z <= most
 }
 
-/// The same places.
-pub fn copied_places(places: &[Placement<Cell>]) -> ArrayVec<Placement<Cell>, MOST_PIECES>
-    requires { length places.now ≤ MOST_PIECES }
-    ensures { result.items ≡ places.now }
-{
-    let mut copied = ArrayVec::new();
-    for place in places {
-        copied.push(*place);
-    }
-    copied
-}
-
 /// Moves the pieces of a group that aren't apart one unit along a direction.
 pub fn shift_group(places: &mut [Placement<Cell>], group: u32, direction: Direction)
     requires few { length places.old ≤ 32 }
     requires near { AreNear places.old }
     ensures { places.new ≡ moved_places group direction places.old }
 {
-    let mut rest = group;
-    while rest != 0 {
-        let piece = usize::from(take_lowest(&mut rest));
-        if piece < places.len() {
-            places[piece] = shifted(places[piece], direction);
+    for (piece, place) in places.iter_mut().enumerate() {
+        if is_in_set(group, piece as u8) {
+            *place = shifted(*place, direction);
         }
     }
-}
-
-/// Takes a piece out of a set that has one.
-fn take_lowest(set: &mut u32) -> u8
-    requires { set.old ≢ 0 }
-    ensures taken { IsInSet set.old result }
-    ensures rest { (p : ℕ) → IsInSet set.new p ↔ (IsInSet set.old p × (p ≢ result)) }
-    ensures fewer { set.new < set.old }
-{
-    let piece = set.trailing_zeros() as u8;
-    *set ^= 1 << piece;
-    piece
 }

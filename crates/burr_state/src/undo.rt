@@ -12,30 +12,16 @@ use std::marker::Model;
 pub enum Change {
     /// Nothing else.
     Nothing,
-    /// Numbers of the running activation; the operands, the bottom first.
-    Numbers {
-        slots: [Option<i32>; SLOTS],
-        operands: ArrayVec<i32, MOST_OPERANDS>,
-    },
-    /// The current tray and the grip.
-    Choice {
-        tray: u8,
-        grip: u32,
-    },
+    /// Numbers of the running activation: its slots, and its operands, the bottom first.
+    Numbers([Option<i32>; SLOTS], ArrayVec<i32, MOST_OPERANDS>),
+    /// The current tray, and the grip.
+    Choice(u8, u32),
     /// Where each piece was, and the grip.
-    Places {
-        places: ArrayVec<Placement<Cell>, MOST_PIECES>,
-        grip: u32,
-    },
+    Places(ArrayVec<Placement<Cell>, MOST_PIECES>, u32),
     /// An activation more; the caller's operands, the bottom first, its arguments with them.
-    Deeper {
-        operands: ArrayVec<i32, MOST_OPERANDS>,
-    },
+    Deeper(ArrayVec<i32, MOST_OPERANDS>),
     /// An activation less; the one that ended, and how many results it gave.
-    Higher {
-        ended: Activation,
-        results: u8,
-    },
+    Higher(Activation, u8),
 }
 
 /// The record of a step: where its instruction stands, and what the step changes, as it was before.

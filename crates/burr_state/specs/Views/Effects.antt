@@ -1,10 +1,10 @@
 -- What the code's instructions came to.
-use Rattle.std.specs.Prelude.{◌≡◌, ◌⊎◌, ◌+◌, ◌-◌, ◌≤◌, ◌++◌, ℕ, ℤ, pos, List, [], ◌∷◌, map, take, drop, length, replicate, Bool, true, false, Option, Some, None, Result, MatchResult, Ok, Err, slice_get}
-use Rattle.burr_code.specs.Instruction.{Ask}
+use Rattle.std.specs.Prelude.{◌≡◌, ◌⊎◌, ◌+◌, ◌-◌, ◌≤◌, ◌<◌, ◌++◌, ℕ, ℤ, pos, List, [], ◌∷◌, map, take, drop, length, replicate, Bool, true, false, Option, Some, None, Result, MatchResult, Ok, Err, slice_get}
+use Rattle.burr_code.specs.Instruction.{Instruction, Ask, IsInRange, spelled}
 use Rattle.burr_code.specs.Places.{AllLieIn}
 use Rattle.burr_code.specs.Stacks.{top_many}
 use Rattle.burr_code.specs.Labels.{argument_slots}
-use Rattle.burr_code.specs.declared.limits.TheConstants.{SLOTS}
+use Rattle.burr_code.specs.declared.limits.TheConstants.{MOST_CODE, SLOTS}
 use Rattle.burr_state.specs.declared.effect.Trap.{Trap}
 use Rattle.burr_state.specs.declared.effect.Trap.TheVariants as traps
 use Rattle.burr_state.specs.declared.effect.Motion.{Motion}
@@ -68,6 +68,26 @@ pub record StaysPut (old new : BenchState) : Type 0 where
   pub grip : new.grip ≡ old.grip
   pub within : StaysWithin old new
 
+-- where a step was made, nothing was called or returned, and the grip lies in the current tray
+abbrev pub StaysWhereGoes : Result Effect Trap → BenchState → BenchState → Type 0
+StaysWhereGoes (Ok (effects.Goes motion)) old new = ChoosesPieces old new
+StaysWhereGoes (Ok (effects.Asks low high)) old new = Unit {0}
+StaysWhereGoes (Err trap) old new = Unit {0}
+
+-- an instruction with this rule was carried out, which moves no piece, and neither calls nor returns
+pub record CarriedOut (Rule : Next → Type 0) (result : Result Effect Trap) (old new : BenchState)
+    : Type 0 where
+  pub next : Rule (next_of result new)
+  pub kept : KeepsUnlessGoes result old new
+  pub no_motion : NeverMoves result
+  pub stays : StaysWhereGoes result old new
+
+-- the instruction, of `size` bytes, is read where the run stands
+pub record IsRead (s : BenchState) (i : Instruction) (size : ℕ) : Type 0 where
+  pub in_range : IsInRange i
+  pub spelled_in : size ≡ length (spelled i)
+  pub within : s.running.pc + size ≤ MOST_CODE
+
 -- no piece moved, the grip lies in the current tray, and the state still fits what is run
 pub record StaysFitting (procedures : List BenchProcedure) (old new : BenchState) : Type 0 where
   pub pieces : PiecesStay old new
@@ -111,6 +131,7 @@ pub record CallerGoesOn (old new : BenchState) : Type 0 where
   pub caller : Activation
   pub callers : old.callers ≡ caller ∷ new.callers
   pub procedure : new.running.procedure ≡ caller.procedure
+  pub lower : caller.procedure < old.running.procedure
 
 -- a number that answers `ask`: it is taken where there is room and it fits, else nothing changes
 abbrev pub TakesNumber : BenchState → ℤ → ℤ → ℤ → Bool → BenchState → Type 0

@@ -1,13 +1,13 @@
-ghost use Rattle.std.specs.Prelude.{◌≡◌, ◌<◌, ◌≤◌, ◌+◌, List, Some, length, slice_get, MatchOption, ◌-ℤ◌, pos};
+ghost use Rattle.std.specs.Prelude.{◌≡◌, ◌≤◌, ◌+◌, List, Some, length, slice_get, MatchOption};
 ghost use Rattle.burr_voxels.specs.declared.cell.Cell.{Cell};
-ghost use Rattle.burr_code.specs.declared.limits.TheConstants.{MOST_CODE, SLOTS};
-ghost use Rattle.burr_code.specs.Instruction.{IsInRange, MovesNoPiece, spelled, Push, Load, Store, Add, Sub, Drop, IsInNumberRange, Ask, Grip, Tray};
+ghost use Rattle.burr_code.specs.declared.limits.TheConstants.{MOST_CODE};
+ghost use Rattle.burr_code.specs.Instruction.{MovesNoPiece, Push, Load, Store, Add, Sub, Drop, Ask, Grip, Tray};
 ghost use Rattle.burr_code.specs.Meaning.{meaning};
-ghost use Rattle.burr_state.specs.Rules.Bench.{running, BenchProcedure};
+ghost use Rattle.burr_state.specs.Rules.Bench.{running};
 ghost use Rattle.burr_state.specs.Views.Programs.{FitsProgram};
 ghost use Rattle.burr_state.specs.Rules.Step.{Executes};
-ghost use Rattle.burr_state.specs.Views.Effects.{next_of, KeepsUnlessGoes, NeverMoves, StaysFitting, StaysPut, TakesNumber, TakesLabel, IsPicked, PicksAt, ChoosesPieces};
-ghost use Rattle.burr_state.specs.Views.StateViews.{IsOrderly, replacing_two};
+ghost use Rattle.burr_state.specs.Views.Effects.{CarriedOut, IsRead, next_of, KeepsUnlessGoes, NeverMoves, StaysFitting, StaysPut, TakesNumber, TakesLabel, IsPicked, PicksAt};
+ghost use Rattle.burr_state.specs.Views.StateViews.{replacing_two};
 ghost use Rattle.burr_state.specs.Rules.Numbers.{pushing, loading, storing, adding, subtracting, dropping};
 ghost use Rattle.burr_state.specs.Rules.Questions.{asking, picking};
 ghost use Rattle.burr_state.specs.Rules.Space.{gripping, choosing_tray};
@@ -18,11 +18,10 @@ use crate::state::BenchState;
 use burr_code::limits::MOST_NUMBER;
 use burr_code::{Instr, Labels};
 
-// Instructions that move no piece.
 impl BenchState {
     /// Carries out an instruction of this many bytes that moves no piece, in the procedure that
     /// runs; a trap changes nothing.
-    #[tactic(auto, using(crate::proofs::Staying::stays_put))]
+    #[tactic(auto, using(crate::proofs::Staying::stays_fitting))]
     pub(crate) fn execute(
         &mut self,
         instruction: &Instr<'_>,
@@ -31,61 +30,42 @@ impl BenchState {
         size: usize,
     ) -> Result<Effect, Trap>
         requires still { MovesNoPiece (meaning instruction.now) }
-        requires in_range { IsInRange (meaning instruction.now) }
         requires procedure { slice_get program.now.procedures self.old.running.procedure
             ≡ Some procedure.now }
         requires fits { FitsProgram program.now.procedures self.old }
-        requires within { self.old.running.pc + size ≤ MOST_CODE }
-        requires size { size ≡ length (spelled (meaning instruction.now)) }
+        requires read { IsRead self.old (meaning instruction.now) size }
         ensures next { (homes : List (List Cell)) → Executes (running homes program.now)
             procedure.now self.old (meaning instruction.now) (next_of result self.new) }
         ensures kept { KeepsUnlessGoes result self.old self.new }
         ensures no_motion { NeverMoves result }
         ensures stays { StaysFitting program.now.procedures self.old self.new }
     {
-        self.each_state_is_orderly();
+        // The gripped pieces lie in the current tray, as in each state.
+        let _ = &self.grip;
         match instruction {
             Instr::Halt => self.halt(),
             Instr::Push(number) => self.push(*number, size),
             Instr::Load(slot) => self.load(*slot, size),
-            Instr::Store(slot) => self.store(*slot, procedure.parameters(), size),
+            Instr::Store(slot) => self.store(*slot, procedure, size),
             Instr::Add => self.add(size),
             Instr::Sub => self.sub(size),
             Instr::Drop => self.drop_top(size),
             Instr::Grip(set) => self.take_grip(*set, size),
             Instr::Tray(tray) => self.choose_tray(*tray, size),
-            Instr::Jump(label) => self.jump(*label, procedure.label(*label)),
-            Instr::Down(slot, label) => {
-                let position = procedure.label(*label);
-                self.down(*slot, *label, position, procedure.parameters(), size)
-            }
+            Instr::Jump(label) => self.jump(*label, procedure),
+            Instr::Down(slot, label) => self.down(*slot, *label, procedure, size),
             Instr::Ask(low, high) => self.ask(*low, *high),
             Instr::Pick(labels) => self.pick(labels, procedure),
             Instr::Call(callee) => self.call(*callee, program, size),
-            Instr::Ret => self.ret(procedure.results()),
+            Instr::Ret => self.ret(procedure),
             Instr::Step(_) | Instr::Aside(..) => unreachable!(),
         }
     }
 
-    /// A law of each state: the gripped pieces lie in the current tray, and callers have lower
-    /// numbers than those that they call.
-    fn each_state_is_orderly(&self)
-        ensures { IsOrderly self.now }
-    {
-        let _ = &self.grip;
-    }
-}
-
-// Instructions on operands and slots.
-impl BenchState {
     /// `push`: a number comes on top of the operands.
     fn push(&mut self, number: i16, size: usize) -> Result<Effect, Trap>
-        requires within { self.old.running.pc + size ≤ MOST_CODE }
-        requires size { size ≡ length (spelled (Push number)) }
-        ensures next { pushing self.old number (next_of result self.new) }
-        ensures kept { KeepsUnlessGoes result self.old self.new }
-        ensures no_motion { NeverMoves result }
-        ensures stays { StaysPut self.old self.new }
+        requires { IsRead self.old (Push number) size }
+        ensures { CarriedOut (pushing self.old number) result self.old self.new }
     {
         if !self.running.has_room() {
             return Err(Trap::StackFull);
@@ -97,17 +77,10 @@ impl BenchState {
 
     /// `load`: what a slot holds comes on top of the operands.
     fn load(&mut self, slot: u8, size: usize) -> Result<Effect, Trap>
-        requires slot { slot < SLOTS }
-        requires within { self.old.running.pc + size ≤ MOST_CODE }
-        requires size { size ≡ length (spelled (Load slot)) }
-        ensures next { loading self.old slot (next_of result self.new) }
-        ensures kept { KeepsUnlessGoes result self.old self.new }
-        ensures no_motion { NeverMoves result }
-        ensures stays { StaysPut self.old self.new }
+        requires { IsRead self.old (Load slot) size }
+        ensures { CarriedOut (loading self.old slot) result self.old self.new }
     {
-        let Some(number) = self.running.slot(slot) else {
-            return Err(Trap::EmptySlot);
-        };
+        let number = self.running.slot(slot).ok_or(Trap::EmptySlot)?;
         if !self.running.has_room() {
             return Err(Trap::StackFull);
         }
@@ -116,23 +89,16 @@ impl BenchState {
         Ok(Effect::Goes(None))
     }
 
-    /// `store`, in a procedure with this many parameters: the top of the operands goes into a slot.
-    fn store(&mut self, slot: u8, parameters: u8, size: usize) -> Result<Effect, Trap>
-        requires slot { slot < SLOTS }
-        requires within { self.old.running.pc + size ≤ MOST_CODE }
-        requires size { size ≡ length (spelled (Store slot)) }
-        ensures next { (here : BenchProcedure) → here.parameters ≡ parameters
-            → storing here self.old slot (next_of result self.new) }
-        ensures kept { KeepsUnlessGoes result self.old self.new }
-        ensures no_motion { NeverMoves result }
-        ensures stays { StaysPut self.old self.new }
+    /// `store`: the top of the operands goes into a slot, which is no parameter of the procedure that
+    /// runs.
+    fn store(&mut self, slot: u8, procedure: &Procedure<'_>, size: usize) -> Result<Effect, Trap>
+        requires { IsRead self.old (Store slot) size }
+        ensures { CarriedOut (storing procedure.now self.old slot) result self.old self.new }
     {
-        if slot < parameters {
+        if slot < procedure.parameters() {
             return Err(Trap::ParamWritten);
         }
-        let Some(number) = self.running.pop() else {
-            return Err(Trap::MissingOperand);
-        };
+        let number = self.running.pop().ok_or(Trap::MissingOperand)?;
         self.running.set_slot(slot, number);
         self.go_after(size);
         Ok(Effect::Goes(None))
@@ -140,12 +106,8 @@ impl BenchState {
 
     /// `add`: the two topmost operands are replaced by their sum.
     fn add(&mut self, size: usize) -> Result<Effect, Trap>
-        requires within { self.old.running.pc + size ≤ MOST_CODE }
-        requires size { size ≡ length (spelled Add) }
-        ensures next { adding self.old (next_of result self.new) }
-        ensures kept { KeepsUnlessGoes result self.old self.new }
-        ensures no_motion { NeverMoves result }
-        ensures stays { StaysPut self.old self.new }
+        requires { IsRead self.old Add size }
+        ensures { CarriedOut (adding self.old) result self.old self.new }
     {
         let Some((top, below)) = self.running.top_two() else {
             return Err(Trap::MissingOperand);
@@ -156,12 +118,8 @@ impl BenchState {
     /// `sub`: the two topmost operands are replaced by their difference, the top taken from the one
     /// below.
     fn sub(&mut self, size: usize) -> Result<Effect, Trap>
-        requires within { self.old.running.pc + size ≤ MOST_CODE }
-        requires size { size ≡ length (spelled Sub) }
-        ensures next { subtracting self.old (next_of result self.new) }
-        ensures kept { KeepsUnlessGoes result self.old self.new }
-        ensures no_motion { NeverMoves result }
-        ensures stays { StaysPut self.old self.new }
+        requires { IsRead self.old Sub size }
+        ensures { CarriedOut (subtracting self.old) result self.old self.new }
     {
         let Some((top, below)) = self.running.top_two() else {
             return Err(Trap::MissingOperand);
@@ -174,56 +132,30 @@ impl BenchState {
     fn replace_two(&mut self, number: i64, size: usize) -> Result<Effect, Trap>
         requires two { 2 ≤ length self.old.running.operands }
         requires within { self.old.running.pc + size ≤ MOST_CODE }
-        ensures next { replacing_two self.old number size (next_of result self.new) }
-        ensures kept { KeepsUnlessGoes result self.old self.new }
-        ensures no_motion { NeverMoves result }
-        ensures stays { StaysPut self.old self.new }
+        ensures { CarriedOut (replacing_two self.old number size) result self.old self.new }
     {
-        let Some(number) = in_number_range(number) else {
+        let most = i64::from(MOST_NUMBER);
+        if number < -most || most < number {
             return Err(Trap::NumberRange);
-        };
-        self.running.replace_two(number);
+        }
+        self.running.replace_two(number as i32);
         self.go_after(size);
         Ok(Effect::Goes(None))
     }
 
     /// `drop`: the top of the operands goes.
     fn drop_top(&mut self, size: usize) -> Result<Effect, Trap>
-        requires within { self.old.running.pc + size ≤ MOST_CODE }
-        requires size { size ≡ length (spelled Drop) }
-        ensures next { dropping self.old (next_of result self.new) }
-        ensures kept { KeepsUnlessGoes result self.old self.new }
-        ensures no_motion { NeverMoves result }
-        ensures stays { StaysPut self.old self.new }
+        requires { IsRead self.old Drop size }
+        ensures { CarriedOut (dropping self.old) result self.old self.new }
     {
-        if self.running.pop().is_none() {
-            return Err(Trap::MissingOperand);
-        }
+        self.running.pop().ok_or(Trap::MissingOperand)?;
         self.go_after(size);
         Ok(Effect::Goes(None))
     }
-}
 
-/// A number where it is one that operands and slots may hold: -32767 to 32767.
-fn in_number_range(number: i64) -> Option<i32>
-    ensures { MatchOption result (¬ IsInNumberRange number)
-        (λ same. (same ≡ number) × IsInNumberRange number) }
-{
-    let most = i64::from(MOST_NUMBER);
-    if number < -most || most < number {
-        return None;
-    }
-    Some(number as i32)
-}
-
-// Instructions that ask the operator, and the answers.
-impl BenchState {
     /// `ask`: asks for a number of a range.
     pub(crate) fn ask(&self, low: i16, high: i16) -> Result<Effect, Trap>
-        ensures next { asking self.now low high (next_of result self.now) }
-        ensures kept { KeepsUnlessGoes result self.now self.now }
-        ensures no_motion { NeverMoves result }
-        ensures stays { StaysPut self.now self.now }
+        ensures { CarriedOut (asking self.now low high) result self.now self.now }
     {
         if !self.running.has_room() {
             return Err(Trap::StackFull);
@@ -237,22 +169,18 @@ impl BenchState {
         labels: &Labels<'_>,
         procedure: &Procedure<'_>,
     ) -> Result<Effect, Trap>
-        ensures next { picking procedure.now labels.now (next_of result self.now) }
-        ensures kept { KeepsUnlessGoes result self.now self.now }
-        ensures no_motion { NeverMoves result }
-        ensures stays { StaysPut self.now self.now }
+        ensures { CarriedOut (picking procedure.now labels.now) result self.now self.now }
     {
         if !procedure.has_labels(labels) {
             return Err(Trap::BadJump);
         }
-        Ok(Effect::Asks(0, last_number(labels)))
+        Ok(Effect::Asks(0, labels.len() as i32 - 1))
     }
 
     /// An answer to `ask`: pushed, where there is room and it fits; else nothing changes. Whether
     /// it is taken.
     pub(crate) fn take_number(&mut self, low: i16, high: i16, answer: i32, size: usize) -> bool
-        requires within { self.old.running.pc + size ≤ MOST_CODE }
-        requires size { size ≡ length (spelled (Ask low high)) }
+        requires { IsRead self.old (Ask low high) size }
         ensures taken { TakesNumber self.old low high answer result self.new }
         ensures stays { StaysPut self.old self.new }
     {
@@ -284,35 +212,11 @@ impl BenchState {
         self.go_to(position);
         true
     }
-}
 
-/// The number of the last label.
-fn last_number(labels: &Labels<'_>) -> i32
-    ensures { result ≡ pos (length labels.now) -ℤ pos 1 }
-{
-    labels.len() as i32 - 1
-}
-
-/// The position of the label that an answer numbers; None where it numbers none.
-fn picked(labels: &Labels<'_>, procedure: &Procedure<'_>, answer: i32) -> Option<u16>
-    ensures { MatchOption result
-        (¬ IsPicked procedure.now.labels labels.now answer)
-        (λ to. PicksAt procedure.now.labels labels.now answer to) }
-{
-    let number = usize::try_from(answer).ok()?;
-    procedure.label(labels.get(number)?)
-}
-
-// Instructions that choose the grip and the current tray.
-impl BenchState {
     /// `grip`: the grip becomes a set of pieces of the current tray.
     fn take_grip(&mut self, set: u32, size: usize) -> Result<Effect, Trap>
-        requires within { self.old.running.pc + size ≤ MOST_CODE }
-        requires size { size ≡ length (spelled (Grip set)) }
-        ensures next { gripping self.old set (next_of result self.new) }
-        ensures kept { KeepsUnlessGoes result self.old self.new }
-        ensures no_motion { NeverMoves result }
-        ensures stays { ChoosesPieces self.old self.new }
+        requires { IsRead self.old (Grip set) size }
+        ensures { CarriedOut (gripping self.old set) result self.old self.new }
     {
         if !self.all_lie_here(set) {
             return Err(Trap::GripOff);
@@ -324,16 +228,22 @@ impl BenchState {
 
     /// `tray`: another tray becomes the current one, and nothing is gripped.
     fn choose_tray(&mut self, tray: u8, size: usize) -> Result<Effect, Trap>
-        requires within { self.old.running.pc + size ≤ MOST_CODE }
-        requires size { size ≡ length (spelled (Tray tray)) }
-        ensures next { choosing_tray self.old tray (next_of result self.new) }
-        ensures kept { KeepsUnlessGoes result self.old self.new }
-        ensures no_motion { NeverMoves result }
-        ensures stays { ChoosesPieces self.old self.new }
+        requires { IsRead self.old (Tray tray) size }
+        ensures { CarriedOut (choosing_tray self.old tray) result self.old self.new }
     {
         self.tray = tray;
         self.grip = 0;
         self.go_after(size);
         Ok(Effect::Goes(None))
     }
+}
+
+/// The position of the label that an answer numbers; None where it numbers none.
+fn picked(labels: &Labels<'_>, procedure: &Procedure<'_>, answer: i32) -> Option<u16>
+    ensures { MatchOption result
+        (¬ IsPicked procedure.now.labels labels.now answer)
+        (λ to. PicksAt procedure.now.labels labels.now answer to) }
+{
+    let number = usize::try_from(answer).ok()?;
+    procedure.label(labels.get(number)?)
 }

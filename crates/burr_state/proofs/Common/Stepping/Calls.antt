@@ -11,7 +11,6 @@ use Rattle.burr_state.specs.Rules.Next.{Goes, Traps, stepped}
 use Rattle.burr_state.specs.Rules.Control.{called, calling}
 use Rattle.burr_state.specs.Views.Programs.{HasRoomFor, HasRoomAfter, FitsProgram}
 use Rattle.burr_state.specs.Views.Effects.{StaysWithin, CallerHasRoom, CallerGoesOn, KeepsUnlessGoes, IsCalledFor, CannotBeCalled}
-use Rattle.burr_state.specs.Views.StateViews.{IsCallChain}
 
 -- nothing was called and nothing returned
 pub fits_within : (procedures : List BenchProcedure) (old new : BenchState) → FitsProgram procedures old → StaysWithin old new
@@ -42,25 +41,18 @@ caller_has_room procedures here n [] found room = tt
 caller_has_room procedures here n (caller ∷ callers) found room =
     subst (λ (p : Option BenchProcedure). IfSome p (λ q. HasRoomFor q.results caller)) found room.0
 
--- the nearest caller goes on
-pub fits_returned : (procedures : List BenchProcedure) (old new : BenchState) → FitsProgram procedures old
-    → IsCallChain old.running.procedure old.callers → CallerGoesOn old new → FitsProgram procedures new
-fits_returned procedures old new fits chain goes =
-    let chained = subst (λ (cs : List Activation). IsCallChain old.running.procedure cs) goes.callers chain in
+-- a return, which goes on with the nearest caller or traps
+pub fits_returning : (procedures : List BenchProcedure) (old new : BenchState) (result : Result Effect Trap)
+    → FitsProgram procedures old → KeepsUnlessGoes result old new → OnOk result (CallerGoesOn old new) → FitsProgram procedures new
+fits_returning procedures old new (Ok effect) fits kept goes =
     let room = subst (λ (cs : List Activation). HasRoomAfter procedures old.running.procedure cs) goes.callers fits.room in
-    let lower = chained.0 in
+    let lower = goes.lower in
     let runs = fits.runs in
     record {
       runs = rw goes.procedure (omega (arith, lower, runs));
       room = rw goes.procedure room.1;
     }
-
--- a return, which goes on or traps
-pub fits_returning : (procedures : List BenchProcedure) (old new : BenchState) (result : Result Effect Trap)
-    → FitsProgram procedures old → IsCallChain old.running.procedure old.callers → KeepsUnlessGoes result old new
-    → OnOk result (CallerGoesOn old new) → FitsProgram procedures new
-fits_returning procedures old new (Ok effect) fits chain kept goes = fits_returned procedures old new fits chain goes
-fits_returning procedures old new (Err trap) fits chain kept goes = rw kept fits
+fits_returning procedures old new (Err trap) fits kept goes = rw kept fits
 
 -- Calls
 

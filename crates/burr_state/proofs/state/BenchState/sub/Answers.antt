@@ -11,17 +11,22 @@ difference : (a b x y : ℤ) → FitsSigned w32 x → FitsSigned w32 y → a ≡
     → to_z w64 (of_z w64 (to_z w64 (of_z w64 a) -ℤ to_z w64 (of_z w64 b))) ≡ x -ℤ y
 difference a b x y first second is same = omega (arith, ints)
 
-pub returns-clause-next : goal.returns-clause-next
-returns-clause-next c =
+pub returns : goal.returns
+returns c =
     let s = c.args.self.now in
     let next = next_of c.replace_two.result c.replace_two.new.self in
     let found : top_two s.running.operands ≡ Some (c.in-Some.top, c.in-Some.below, drop 2 s.running.operands) =
     subst (λ (x : BenchState). top_two x.running.operands ≡ Some (c.in-Some.top, c.in-Some.below, drop 2 x.running.operands)) c.self.view_is c.in-Some.ensures in
-    inr (
-      (c.in-Some.top, c.in-Some.below, drop 2 s.running.operands),
-      found,
-      subst (λ (n : ℤ). replacing_two s n 1 next)
-          (difference c.from.result c.from-2.result c.in-Some.below c.in-Some.top (search rules) (search rules) c.from.ensures c.from-2.ensures)
-          (subst (λ (n : ℕ). replacing_two s (to_z w64 (of_z w64 (to_z w64 (of_z w64 c.from.result) -ℤ to_z w64 (of_z w64 c.from-2.result)))) n next)
-          c.requires.size c.replace_two.ensures.next),
-    )
+    record {
+      kept = c.replace_two.ensures.kept;
+      no_motion = c.replace_two.ensures.no_motion;
+      stays = c.replace_two.ensures.stays;
+      next = inr (
+        (c.in-Some.top, c.in-Some.below, drop 2 s.running.operands),
+        found,
+        subst (λ (n : ℤ). replacing_two s n 1 next)
+            (difference c.from.result c.from-2.result c.in-Some.below c.in-Some.top (search rules) (search rules) c.from.ensures c.from-2.ensures)
+            (subst (λ (n : ℕ). replacing_two s (to_z w64 (of_z w64 (to_z w64 (of_z w64 c.from.result) -ℤ to_z w64 (of_z w64 c.from-2.result)))) n next)
+            c.requires.spelled_in c.replace_two.ensures.next),
+      );
+    }
