@@ -5,7 +5,7 @@ ghost use Rattle.burr_code.specs.declared.limits.TheConstants.{MOST_CODE, MOST_B
 ghost use Rattle.burr_container.specs.Rules.Plans.{Plan};
 ghost use Rattle.burr_container.specs.Views.Containers.{IsContainer, OfProcedure};
 ghost use Rattle.burr_state.specs.Rules.Bench.{bare_procedure, bare_program};
-ghost use Rattle.burr_state.specs.Views.Programs.{HasLabels, bench_procedure, plan_program, positions_of};
+ghost use Rattle.burr_state.specs.Views.Programs.{HasLabels, bench_procedure, plan_program};
 
 use arrayvec::ArrayVec;
 use burr_code::Labels;
@@ -18,9 +18,9 @@ use std::marker::Model;
 #[derive(Debug, Drop)]
 pub struct Procedure<'a> {
     /// How many parameters it has, 0 to 4.
-    parameters: u8,
+    pub(crate) parameters: u8,
     /// How many results it has, 0 to 2.
-    results: u8,
+    pub(crate) results: u8,
     labels: ArrayVec<u16, MOST_LABELS>,
     code: &'a [u8],
 }
@@ -56,26 +56,16 @@ impl<'a> Procedure<'a> {
         requires { number < length container.now.procedures }
         ensures { OfProcedure container.now number (λ p q. result ≡ bench_procedure q) }
     {
+        let mut labels = ArrayVec::new();
+        for label in 0..container.label_count(number) {
+            labels.push(container.label(number, label));
+        }
         Procedure {
             parameters: container.params(number),
             results: container.results(number),
-            labels: label_positions(container, number),
+            labels,
             code: container.code(number),
         }
-    }
-
-    /// How many parameters it has.
-    pub fn parameters(&self) -> u8
-        ensures { result ≡ self.now.parameters }
-    {
-        self.parameters
-    }
-
-    /// How many results it has.
-    pub fn results(&self) -> u8
-        ensures { result ≡ self.now.results }
-    {
-        self.results
     }
 
     /// Its code, at most 4,096 bytes.
@@ -104,18 +94,6 @@ impl<'a> Procedure<'a> {
         }
         true
     }
-}
-
-/// The positions of a procedure's labels.
-fn label_positions(container: &Container<'_>, number: usize) -> ArrayVec<u16, MOST_LABELS>
-    requires { number < length container.now.procedures }
-    ensures { OfProcedure container.now number (λ p q. result.items ≡ positions_of q.labels) }
-{
-    let mut positions = ArrayVec::new();
-    for label in 0..container.label_count(number) {
-        positions.push(container.label(number, label));
-    }
-    positions
 }
 
 impl<'a> Default for Procedure<'a> {

@@ -1,4 +1,3 @@
-mod control;
 mod instructions;
 mod undoing;
 

@@ -1,22 +1,25 @@
-ghost use Rattle.std.specs.Prelude.{◌≡◌, ◌≤◌, ◌+◌, List, Some, length, slice_get, MatchOption};
+ghost use Rattle.std.specs.Prelude.{◌≡◌, ◌≤◌, ◌+◌, List, Some, OnOk, length, slice_get, MatchOption};
 ghost use Rattle.burr_voxels.specs.declared.cell.Cell.{Cell};
 ghost use Rattle.burr_code.specs.declared.limits.TheConstants.{MOST_CODE};
-ghost use Rattle.burr_code.specs.Instruction.{MovesNoPiece, Push, Load, Store, Add, Sub, Drop, Ask, Grip, Tray};
+ghost use Rattle.burr_code.specs.Instruction.{MovesNoPiece, Push, Load, Store, Add, Sub, Drop, Ask, Grip, Tray, Down, Call};
 ghost use Rattle.burr_code.specs.Meaning.{meaning};
 ghost use Rattle.burr_state.specs.Rules.Bench.{running};
-ghost use Rattle.burr_state.specs.Views.Programs.{FitsProgram};
-ghost use Rattle.burr_state.specs.Rules.Step.{Executes};
-ghost use Rattle.burr_state.specs.Views.Effects.{CarriedOut, IsRead, next_of, KeepsUnlessGoes, NeverMoves, StaysFitting, StaysPut, TakesNumber, TakesLabel, IsPicked, PicksAt};
-ghost use Rattle.burr_state.specs.Views.StateViews.{replacing_two};
+ghost use Rattle.burr_state.specs.Rules.Control.{halting, jumping, counting_down, calling, returning};
+ghost use Rattle.burr_state.specs.Rules.Next.{at_label};
 ghost use Rattle.burr_state.specs.Rules.Numbers.{pushing, loading, storing, adding, subtracting, dropping};
 ghost use Rattle.burr_state.specs.Rules.Questions.{asking, picking};
 ghost use Rattle.burr_state.specs.Rules.Space.{gripping, choosing_tray};
+ghost use Rattle.burr_state.specs.Rules.Step.{Executes};
+ghost use Rattle.burr_state.specs.Views.Effects.{CarriedOut, IsRead, next_of, KeepsUnlessGoes, NeverMoves, PiecesStay, StaysFitting, StaysPut, CallerHasRoom, CallerGoesOn, TakesNumber, TakesLabel, IsPicked, PicksAt};
+ghost use Rattle.burr_state.specs.Views.Programs.{FitsProgram};
+ghost use Rattle.burr_state.specs.Views.StateViews.{IsOrderly, replacing_two};
 
-use crate::effect::{Effect, Trap};
+use crate::effect::{Effect, Mode, Trap};
 use crate::program::{Procedure, Program};
 use crate::state::BenchState;
 use burr_code::limits::MOST_NUMBER;
 use burr_code::{Instr, Labels};
+use std::mem::replace;
 
 impl BenchState {
     /// Carries out an instruction of this many bytes that moves no piece, in the procedure that
@@ -95,7 +98,7 @@ impl BenchState {
         requires { IsRead self.old (Store slot) size }
         ensures { CarriedOut (storing procedure.now self.old slot) result self.old self.new }
     {
-        if slot < procedure.parameters() {
+        if procedure.parameters > slot {
             return Err(Trap::ParamWritten);
         }
         let number = self.running.pop().ok_or(Trap::MissingOperand)?;
@@ -109,9 +112,7 @@ impl BenchState {
         requires { IsRead self.old Add size }
         ensures { CarriedOut (adding self.old) result self.old self.new }
     {
-        let Some((top, below)) = self.running.top_two() else {
-            return Err(Trap::MissingOperand);
-        };
+        let (top, below) = self.running.top_two().ok_or(Trap::MissingOperand)?;
         self.replace_two(i64::from(below) + i64::from(top), size)
     }
 
@@ -121,9 +122,7 @@ impl BenchState {
         requires { IsRead self.old Sub size }
         ensures { CarriedOut (subtracting self.old) result self.old self.new }
     {
-        let Some((top, below)) = self.running.top_two() else {
-            return Err(Trap::MissingOperand);
-        };
+        let (top, below) = self.running.top_two().ok_or(Trap::MissingOperand)?;
         self.replace_two(i64::from(below) - i64::from(top), size)
     }
 
@@ -150,6 +149,112 @@ impl BenchState {
     {
         self.running.pop().ok_or(Trap::MissingOperand)?;
         self.go_after(size);
+        Ok(Effect::Goes(None))
+    }
+
+    /// `halt`: ends the run in main, where all pieces are apart; pc stays.
+    fn halt(&mut self) -> Result<Effect, Trap>
+        ensures { CarriedOut (halting self.old) result self.old self.new }
+    {
+        if self.running.procedure != 0 {
+            return Err(Trap::Misplaced);
+        }
+        if !self.are_all_apart() {
+            return Err(Trap::NotApart);
+        }
+        self.mode = Mode::Ended;
+        self.steps = self.steps.saturating_add(1);
+        Ok(Effect::Goes(None))
+    }
+
+    /// `jump`: goes on at a label of the procedure that runs.
+    fn jump(&mut self, label: u16, procedure: &Procedure<'_>) -> Result<Effect, Trap>
+        ensures { CarriedOut (jumping procedure.now self.old label) result self.old self.new }
+    {
+        let position = procedure.label(label).ok_or(Trap::BadJump)?;
+        self.go_to(position);
+        Ok(Effect::Goes(None))
+    }
+
+    /// `down`: at 0 it goes on after it, else the slot holds one less and it goes on at a label of
+    /// the procedure that runs.
+    fn down(
+        &mut self,
+        slot: u8,
+        label: u16,
+        procedure: &Procedure<'_>,
+        size: usize,
+    ) -> Result<Effect, Trap>
+        requires { IsRead self.old (Down slot label) size }
+        ensures { CarriedOut (counting_down procedure.now self.old slot label) result self.old
+            self.new }
+    {
+        let position = procedure.label(label).ok_or(Trap::BadJump)?;
+        if slot < procedure.parameters {
+            return Err(Trap::ParamWritten);
+        }
+        let count = self.running.slot(slot).ok_or(Trap::EmptySlot)?;
+        if count < 0 {
+            return Err(Trap::BadCount);
+        }
+        if count == 0 {
+            self.go_after(size);
+            return Ok(Effect::Goes(None));
+        }
+        self.running.set_slot(slot, count - 1);
+        self.go_to(position);
+        Ok(Effect::Goes(None))
+    }
+
+    /// `call`: the topmost operands become the first slots of a procedure of a higher number, the
+    /// top the last of them.
+    fn call(&mut self, callee: u8, program: &Program<'_>, size: usize) -> Result<Effect, Trap>
+        requires read { IsRead self.old (Call callee) size }
+        requires fits { FitsProgram program.now.procedures self.old }
+        ensures next { (homes : List (List Cell))
+            → calling (running homes program.now) self.old callee (next_of result self.new) }
+        ensures kept { KeepsUnlessGoes result self.old self.new }
+        ensures no_motion { NeverMoves result }
+        ensures stays { PiecesStay self.old self.new }
+        ensures fits { FitsProgram program.now.procedures self.new }
+    {
+        if callee <= self.running.procedure {
+            return Err(Trap::BadCall);
+        }
+        let Some(procedure) = program.procedure(callee) else {
+            return Err(Trap::BadCall);
+        };
+        let called = self
+            .running
+            .calls(callee, procedure.parameters, procedure.results)?;
+        let mut caller = replace(&mut self.running, called);
+        caller.pc += size;
+        self.callers.push(caller);
+        self.steps = self.steps.saturating_add(1);
+        Ok(Effect::Goes(None))
+    }
+
+    /// `ret`: the activation of this procedure ends, and its topmost operands, one for each result,
+    /// come on top of those of its caller, which goes on.
+    fn ret(&mut self, procedure: &Procedure<'_>) -> Result<Effect, Trap>
+        requires room { CallerHasRoom procedure.now.results self.old.callers }
+        ensures next { returning procedure.now self.old (next_of result self.new) }
+        ensures kept { KeepsUnlessGoes result self.old self.new }
+        ensures no_motion { NeverMoves result }
+        ensures stays { PiecesStay self.old self.new }
+        ensures caller { OnOk result (CallerGoesOn self.old self.new) }
+    {
+        if self.callers.is_empty() {
+            return Err(Trap::Misplaced);
+        }
+        let results = self
+            .running
+            .top_many(procedure.results)
+            .ok_or(Trap::MissingOperand)?;
+        let mut caller = self.callers.pop().unwrap();
+        caller.push_all(results.as_slice());
+        self.running = caller;
+        self.steps = self.steps.saturating_add(1);
         Ok(Effect::Goes(None))
     }
 
@@ -235,6 +340,15 @@ impl BenchState {
         self.grip = 0;
         self.go_after(size);
         Ok(Effect::Goes(None))
+    }
+
+    /// Makes a step after which the run goes on at a position.
+    fn go_to(&mut self, position: u16)
+        ensures state { self.new ≡ at_label position self.old.running self.old }
+        ensures orderly { IsOrderly self.new }
+    {
+        self.running.pc = usize::from(position);
+        self.steps = self.steps.saturating_add(1);
     }
 }
 

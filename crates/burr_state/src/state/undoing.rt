@@ -41,7 +41,7 @@ impl BenchState {
             Instr::Call(_) => {
                 Change::Deeper(ArrayVec::try_from(self.running.operands.as_slice()).unwrap())
             }
-            Instr::Ret => Change::Higher(self.running.copied(), procedure.results()),
+            Instr::Ret => Change::Higher(self.running.copied(), procedure.results),
             _other => {
                 let operands = ArrayVec::try_from(self.running.operands.as_slice()).unwrap();
                 Change::Numbers(self.running.slots, operands)

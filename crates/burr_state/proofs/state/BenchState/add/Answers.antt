@@ -15,17 +15,19 @@ pub returns : goal.returns
 returns c =
     let s = c.args.self.now in
     let next = next_of c.replace_two.result c.replace_two.new.self in
-    let found : top_two s.running.operands ≡ Some (c.in-Some.top, c.in-Some.below, drop 2 s.running.operands) =
-    subst (λ (x : BenchState). top_two x.running.operands ≡ Some (c.in-Some.top, c.in-Some.below, drop 2 x.running.operands)) c.self.view_is c.in-Some.ensures in
+    let old = c.self.inside.running.operands in
+    let inside : top_two old ≡ Some (c.in_ok-top.top, c.in_ok-top.below, drop 2 old) = search rules in
+    let found : top_two s.running.operands ≡ Some (c.in_ok-top.top, c.in_ok-top.below, drop 2 s.running.operands) =
+    subst (λ (x : BenchState). top_two x.running.operands ≡ Some (c.in_ok-top.top, c.in_ok-top.below, drop 2 x.running.operands)) c.self.view_is inside in
     record {
       kept = c.replace_two.ensures.kept;
       no_motion = c.replace_two.ensures.no_motion;
       stays = c.replace_two.ensures.stays;
       next = inr (
-        (c.in-Some.top, c.in-Some.below, drop 2 s.running.operands),
+        (c.in_ok-top.top, c.in_ok-top.below, drop 2 s.running.operands),
         found,
         subst (λ (n : ℤ). replacing_two s n 1 next)
-            (sum c.from.result c.from-2.result c.in-Some.below c.in-Some.top (search rules) (search rules) c.from.ensures c.from-2.ensures)
+            (sum c.from.result c.from-2.result c.in_ok-top.below c.in_ok-top.top (search rules) (search rules) c.from.ensures c.from-2.ensures)
             (subst (λ (n : ℕ). replacing_two s (to_z w64 (of_z w64 (to_z w64 (of_z w64 c.from.result) +ℤ to_z w64 (of_z w64 c.from-2.result)))) n next)
             c.requires.spelled_in c.replace_two.ensures.next),
       );

@@ -5,7 +5,7 @@ use Rattle.std.proofs.lemmas.Option.{slice_get_within}
 use Rattle.std.proofs.lemmas.Result.{err_from_is_err_and}
 use Rattle.burr_code.specs.Labels.{callee_of}
 use Rattle.burr_state.specs.declared.state.BenchState.TheInside.{Inside}
-use Rattle.burr_state.specs.Rules.Bench.{Activation, activation, BenchState, running}
+use Rattle.burr_state.specs.Rules.Bench.{Activation, activation, BenchProcedure, BenchState, running}
 use Rattle.burr_state.specs.Views.Effects.{IsCalledFor, CannotBeCalled}
 use Rattle.burr_state.specs.Views.Programs.{HasRoomFor, FitsProgram}
 use Rattle.burr_state.specs.Views.StateViews.{standing}
@@ -31,8 +31,7 @@ returns-in_err-called-clause-next c homes =
     let above : old.running.procedure < callee = subst (λ n. n < callee) (ap (λ (x : Inside). x.running.procedure) c.self-inside.view_is) c.if-callee-self.false in
     let found : callee_of c.args.program.now.procedures old.running.procedure callee ≡ Some there = rw (lt-ltb old.running.procedure callee above) c.in-Some.ensures.found in
     let cannot =
-    subst (λ n. CannotBeCalled old.running n there.results c.in_err-called.field-0.0) c.parameters.ensures
-    (subst (λ n. CannotBeCalled old.running c.parameters.result n c.in_err-called.field-0.0) c.results.ensures c.in_err-called.ensures.calls.0) in
+    subst (λ (p : BenchProcedure). CannotBeCalled old.running p.parameters p.results c.in_err-called.field-0.0) c.procedure-2.view_is c.in_err-called.ensures.calls.0 in
     let p = err_from_is_err_and c.from_residual.result c.from_residual.ensures.1 in
     rw (p.1, p.2, ← c.self.view_is) (cannot_call (running homes c.args.program.now) _ callee there _ found cannot)
 
@@ -44,8 +43,7 @@ returns-clause-next c homes =
     let above : old.running.procedure < callee = subst (λ n. n < callee) (ap (λ (x : Inside). x.running.procedure) c.self-inside.view_is) c.if-callee-self.false in
     let found : callee_of c.args.program.now.procedures old.running.procedure callee ≡ Some there = rw (lt-ltb old.running.procedure callee above) c.in-Some.ensures.found in
     let is : IsCalledFor old.running callee there.parameters there.results c.in_ok-called.called c.calls.new.self =
-    subst (λ n. IsCalledFor old.running callee n there.results c.in_ok-called.called c.calls.new.self) c.parameters.ensures
-    (subst (λ n. IsCalledFor old.running callee c.parameters.result n c.in_ok-called.called c.calls.new.self) c.results.ensures c.in_ok-called.ensures.calls) in
+    subst (λ (p : BenchProcedure). IsCalledFor old.running callee p.parameters p.results c.in_ok-called.called c.calls.new.self) c.procedure-2.view_is c.in_ok-called.ensures.calls in
     let on = c.caller.inside in
     let left = activation on.procedure (on.pc + c.args.size) on.slots (reverse on.operands.items) in
     let caller : left ≡ record c.calls.new.self { pc = old.running.pc + 2 } =
@@ -66,8 +64,7 @@ returns-clause-fits c =
     let above : old.running.procedure < callee = subst (λ n. n < callee) (ap (λ (x : Inside). x.running.procedure) c.self-inside.view_is) c.if-callee-self.false in
     let found : callee_of c.args.program.now.procedures old.running.procedure callee ≡ Some there = rw (lt-ltb old.running.procedure callee above) c.in-Some.ensures.found in
     let is : IsCalledFor old.running callee there.parameters there.results c.in_ok-called.called c.calls.new.self =
-    subst (λ n. IsCalledFor old.running callee n there.results c.in_ok-called.called c.calls.new.self) c.parameters.ensures
-    (subst (λ n. IsCalledFor old.running callee c.parameters.result n c.in_ok-called.called c.calls.new.self) c.results.ensures c.in_ok-called.ensures.calls) in
+    subst (λ (p : BenchProcedure). IsCalledFor old.running callee p.parameters p.results c.in_ok-called.called c.calls.new.self) c.procedure-2.view_is c.in_ok-called.ensures.calls in
     let on = c.caller.inside in
     let left = activation on.procedure (on.pc + c.args.size) on.slots (reverse on.operands.items) in
     let caller : left ≡ record c.calls.new.self { pc = old.running.pc + 2 } =
