@@ -4,6 +4,7 @@ mod undoing;
 ghost use Rattle.std.specs.Prelude.{◌≡◌, ◌≢◌, ◌≤◌, ◌<◌, ◌+◌, ℕ, length, IfSome, Some, None, slice_get, get_or, reverse, ◌↔◌, IsTrue, pos};
 ghost use Rattle.burr_voxels.specs.Near.{IsWithin};
 ghost use Rattle.burr_code.specs.declared.limits.TheConstants.{MOST_OFFSET, MOST_CODE, MOST_PIECES, SLOTS};
+ghost use Rattle.burr_code.specs.PieceSets.{IsInSet};
 ghost use Rattle.burr_code.specs.Places.{AllLieIn, AllApart, IsPartOfTray, IsEmptyTray, at_position};
 ghost use Rattle.burr_state.specs.Views.StateViews.{at_start, IsOffsetHere, StaysOnBench, PieceStaysOnBench, after, moved_grip, gone_aside};
 ghost use Rattle.burr_state.specs.Views.Offsets.{AreNear, PositionHolds};
@@ -15,9 +16,7 @@ use crate::activation::Activation;
 use crate::effect::{Mode, Trap};
 use arrayvec::ArrayVec;
 use burr_code::limits::{MOST_OFFSET, MOST_PIECES, MOST_PROCEDURES};
-use burr_code::{
-    Placement, all_lie_in, are_all_apart, is_empty_tray, is_in_set, is_part_of_tray, take_aside,
-};
+use burr_code::{Placement, all_lie_in, are_all_apart, is_empty_tray, is_part_of_tray, take_aside};
 use burr_voxels::{Cell, Direction};
 use std::marker::Model;
 
@@ -192,8 +191,10 @@ impl BenchState {
     pub fn stays_on_bench(&self, direction: Direction) -> bool
         ensures { IsTrue result ↔ StaysOnBench self.now direction }
     {
-        for piece in 0..self.places.len() as u8 {
-            if is_in_set(self.grip, piece) && !self.piece_stays_on_bench(piece, direction) {
+        let mut rest = self.grip;
+        while rest != 0 {
+            let piece = take_lowest(&mut rest);
+            if !self.piece_stays_on_bench(piece, direction) {
                 return false;
             }
         }
@@ -306,9 +307,23 @@ pub fn shift_group(places: &mut [Placement<Cell>], group: u32, direction: Direct
     requires near { AreNear places.old }
     ensures { places.new ≡ moved_places group direction places.old }
 {
-    for (piece, place) in places.iter_mut().enumerate() {
-        if is_in_set(group, piece as u8) {
-            *place = shifted(*place, direction);
+    let mut rest = group;
+    while rest != 0 {
+        let piece = usize::from(take_lowest(&mut rest));
+        if piece < places.len() {
+            places[piece] = shifted(places[piece], direction);
         }
     }
+}
+
+/// Takes a piece out of a set that has one.
+fn take_lowest(set: &mut u32) -> u8
+    requires { set.old ≢ 0 }
+    ensures taken { IsInSet set.old result }
+    ensures rest { (p : ℕ) → IsInSet set.new p ↔ (IsInSet set.old p × (p ≢ result)) }
+    ensures fewer { set.new < set.old }
+{
+    let piece = set.trailing_zeros() as u8;
+    *set ^= 1 << piece;
+    piece
 }

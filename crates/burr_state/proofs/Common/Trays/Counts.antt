@@ -1,15 +1,19 @@
 -- The places of a set's pieces are changed; and how many pieces are counted in a tray.
-use Rattle.std.proofs.Common.{◌≡◌, ◌≢◌, ◌⊎◌, ℕ, zero, suc, ◌+◌, ◌==◌, if◌then◌else◌}
-use Rattle.std.proofs.Common.{List, [], ◌∷◌, slice_get, Some, All}
-use Rattle.std.proofs.Common.{refl, sym, ap, subst, ◌∙◌, inl, inr, arith}
+use Rattle.std.proofs.Common.{◌≡◌, ◌≢◌, ◌⊎◌, ◌↔◌, ℕ, zero, suc, ◌+◌, ◌*◌, ◌%◌, ◌^◌, ◌<◌, ◌==◌, if◌then◌else◌}
+use Rattle.std.proofs.Common.{List, [], ◌∷◌, slice_get, slice_index_or, slice_set, Some, All}
+use Rattle.std.proofs.Common.{refl, sym, ap, ap₂, subst, ◌∙◌, inl, inr, arith, w32}
 use Rattle.std.proofs.lemmas.Bool.{cond_both}
 use Rattle.std.proofs.lemmas.Bool.Decides.{nat_tests}
 use Rattle.std.proofs.lemmas.List.Elements.{All-nil, All-cons, All-head, All-tail}
 use Rattle.std.proofs.lemmas.Option.{none-some, same_Some}
+use Rattle.std.proofs.lemmas.Nat.{pow_pos, one_shl, bit_set_by_shift}
+use Rattle.std.proofs.lemmas.Nat.Bits.{bit_at_xor, bit_at-pow_other, bit_at-pow_same, bit_at-lt, bit_at-trailing_zeros, and_pow, shr_and_one}
 use Rattle.std.specs.List.{AllZip}
+use Rattle.std.specs.Int.{bit_at, trailing_zeros}
+use lib.Bits.{bit_xor, xor_add_and}
 use native.Mathlib.Decide.{ℕ_discrete}
 use Rattle.burr_code.specs.PieceSets.{IsInSet, is_left_out}
-use Rattle.burr_code.proofs.Common.PieceSets.{not_left_out, left_out, decide_bit}
+use Rattle.burr_code.proofs.Common.PieceSets.{not_left_out, left_out, decide_bit, no_bit}
 use Rattle.burr_code.specs.declared.placement.Placement.{Placement}
 use Rattle.burr_code.specs.declared.placement.Placement.TheVariants.{Apart, On}
 use Rattle.burr_code.specs.Places.{LiesAt, LiesIn, AllLieIn, changed, to_tray, is_in, count_in, parted_in}
@@ -37,6 +41,89 @@ All-changed P f group p (place ∷ places) keeps all =
     All-cons P (changed_place f group p place) (changed f group (suc p) places)
     (cond_both (is_left_out group p) place (f place) P (λ none. holds) (λ bit. keeps place holds))
     (All-changed P f group (suc p) places keeps (All-tail P place places all))
+
+-- the places are the same after the change of an empty set
+pub none_changed : {Place : Type 0} (f : Place → Place) (p : ℕ) (places : List Place) → changed f 0 p places ≡ places
+none_changed f p [] = refl
+none_changed f p (place ∷ places) = ap₂ (λ x more. x ∷ more) (is_kept f 0 p place (no_bit p)) (none_changed f (suc p) places)
+
+-- A piece is taken out of a set
+
+-- the rest are the others of the set
+abbrev pub IsRest : ℕ → ℕ → ℕ → Type 0
+IsRest set piece rest = (p : ℕ) → IsInSet rest p ↔ (IsInSet set p × (p ≢ piece))
+
+-- the bit of a piece of the set
+bit_is : (set p : ℕ) → (bit_at set p ≡ 1) ↔ IsInSet set p
+bit_is set p = (
+  λ one. (bit_set_by_shift set p).0 (shr_and_one set p ∙ one),
+  λ bit. sym (shr_and_one set p) ∙ (bit_set_by_shift set p).1 bit,
+)
+
+-- the set without a piece that it has, whose bit is turned
+turned : (set piece : ℕ) → bit_at set piece ≡ 1 → IsRest set piece (bit_xor set (2 ^ piece)) × (bit_xor set (2 ^ piece) < set)
+turned set piece one = (rest, omega (arith, pow_pos piece, xor_add_and set (2 ^ piece), and_pow set piece ∙ ap (λ b. b * 2 ^ piece) one))
+  where
+    other_bit : (p : ℕ) → p ≢ piece → bit_at (bit_xor set (2 ^ piece)) p ≡ bit_at set p
+    other_bit p other = omega (arith, bit_at_xor set (2 ^ piece) p, bit_at-pow_other piece p other, bit_at-lt set p)
+
+    gone : bit_at (bit_xor set (2 ^ piece)) piece ≡ 0
+    gone = omega (arith, bit_at_xor set (2 ^ piece) piece, bit_at-pow_same piece, one)
+
+    rest : IsRest set piece (bit_xor set (2 ^ piece))
+    rest p = (
+      λ bit. let left = (bit_is (bit_xor set (2 ^ piece)) p).1 bit in
+          elim (ℕ_discrete p piece) [
+            | yes same ↦ absurd (omega (arith, left, ap (bit_at (bit_xor set (2 ^ piece))) same, gone))
+            | no other ↦ ((bit_is set p).0 (sym (other_bit p other) ∙ left), other)
+          ],
+      λ had. (bit_is (bit_xor set (2 ^ piece)) p).0 (other_bit p had.1 ∙ (bit_is set p).1 had.0),
+    )
+
+-- the lowest piece is taken out of a set
+pub lowest_taken : (set : ℕ) → 0 < set → set < 2 ^ 32
+    → IsInSet set (trailing_zeros w32 set)
+    × IsRest set (trailing_zeros w32 set) (bit_xor set (1 * 2 ^ trailing_zeros w32 set % 2 ^ 32))
+    × (bit_xor set (1 * 2 ^ trailing_zeros w32 set % 2 ^ 32) < set)
+lowest_taken set positive fits =
+    let lowest = bit_at-trailing_zeros w32 set positive fits in
+    let piece = trailing_zeros w32 set in
+    let left = turned set piece lowest.1 in
+    rw (one_shl piece 32 lowest.0) ((bit_is set piece).0 lowest.1, left.0, left.1)
+
+-- another piece is left out of the rest where it is left out of the set
+left_out_alike : (set piece rest p : ℕ) → IsRest set piece rest → p ≢ piece → is_left_out rest p ≡ is_left_out set p
+left_out_alike set piece rest p others other = elim (decide_bit set p) [
+  | inl bit ↦ not_left_out rest p ((others p).1 (bit, other)) ∙ sym (not_left_out set p bit)
+  | inr out ↦ left_out rest p (λ bit. out ((others p).0 bit).0) ∙ sym (left_out set p out)
+]
+
+-- beyond the piece the rest changes what the set does
+changed_beyond : {Place : Type 0} (f : Place → Place) (set piece rest p : ℕ) (places : List Place)
+    → IsRest set piece rest → piece < p → changed f rest p places ≡ changed f set p places
+changed_beyond f set piece rest p [] others beyond = refl
+changed_beyond f set piece rest p (place ∷ places) others beyond =
+    ap₂ (λ out more. (if out then place else f place) ∷ more) (left_out_alike set piece rest p others (λ e. omega arith))
+    (changed_beyond f set piece rest (suc p) places others (omega arith))
+
+first_changed_from : {Place : Type 0} (f : Place → Place) (set piece rest p k : ℕ) (places : List Place) (d : Place)
+    → p + k ≡ piece → IsInSet set piece → IsRest set piece rest
+    → changed f rest p (slice_set places k (f (slice_index_or places k d))) ≡ changed f set p places
+first_changed_from f set piece rest p k [] d e bit others = refl
+first_changed_from f set piece rest p zero (place ∷ places) d e bit others =
+    let here : p ≡ piece = omega arith in
+    ap₂ (λ x more. x ∷ more)
+    (is_kept f rest p (f place) (λ left. ((others p).0 left).1 here) ∙ sym (is_changed f set p place (subst (IsInSet set) (sym here) bit)))
+    (changed_beyond f set piece rest (suc p) places others (omega arith))
+first_changed_from f set piece rest p (suc k) (place ∷ places) d e bit others =
+    ap₂ (λ out more. (if out then place else f place) ∷ more) (left_out_alike set piece rest p others (λ same. omega arith))
+    (first_changed_from f set piece rest (suc p) k places d (omega arith) bit others)
+
+-- a piece of the set is changed first, and then the rest
+pub first_changed : {Place : Type 0} (f : Place → Place) (set piece rest : ℕ) (places : List Place) (d : Place)
+    → IsInSet set piece → IsRest set piece rest
+    → changed f rest 0 (slice_set places piece (f (slice_index_or places piece d))) ≡ changed f set 0 places
+first_changed f set piece rest places d = first_changed_from f set piece rest 0 piece places d (omega arith)
 
 slice_get-changed_from : {Place : Type 0} (f : Place → Place) (group p k i : ℕ) (places : List Place) (place : Place)
     → p + k ≡ i → slice_get places k ≡ Some place → slice_get (changed f group p places) k ≡ Some (changed_place f group i place)
