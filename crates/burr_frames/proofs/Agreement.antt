@@ -1,7 +1,6 @@
 -- Values of a state's forms, one after the other, beside those of another state's.
 use Rattle.std.proofs.Common.{◌≡◌, ℕ, suc, List, [], ◌∷◌, ◌++◌, length, take, drop, map, refl, sym, ap, subst, ◌∙◌, ℤ, arith}
-use Rattle.std.specs.Prelude.{reverse, Option, Some, None, MatchOption}
-use Rattle.arrayvec.specs.ArrayVec.{ArrayVec}
+use Rattle.std.specs.Prelude.{⊤, reverse, Result, Ok, Err}
 use Rattle.std.proofs.lemmas.List.{length-map, length-reverse, map-append, reverse-reverse, reverse-append, take_at, drop_at}
 use Rattle.burr_voxels.specs.declared.cell.Cell.{Cell}
 use Rattle.burr_voxels.specs.Grid.{at}
@@ -9,12 +8,13 @@ use Rattle.burr_code.specs.declared.placement.Placement.{Placement}
 use Rattle.burr_code.specs.declared.placement.Placement.TheVariants.{Apart, On}
 use Rattle.burr_code.specs.Places.{tray_of}
 use Rattle.burr_forms.specs.Rules.Forms.{Form, Point, value, values}
-use Rattle.burr_forms.specs.Rules.Conditions.{Region, at_values, Throughout, FailsFirstAt}
-use Rattle.burr_container.specs.Rules.Plans.{FormCell}
+use Rattle.burr_forms.specs.Rules.Conditions.{Region, at_values}
+use Rattle.burr_container.specs.Rules.Plans.{FormCell, Range}
 use Rattle.burr_frames.specs.Rules.States.{AbstractState, region_of, cell_at, places_at}
 use Rattle.burr_frames.specs.Rules.Arrival.{IsAlike}
 use Rattle.burr_frames.specs.Views.Comparing.{offset_forms, Target, symbols_of, IsMetAt, IsMetBy}
-use Rattle.burr_frames.specs.Views.ArrivalViews.{AgreesAbove}
+use Rattle.burr_frames.specs.Views.ArrivalViews.{AgreesAbove, HoldsOrMisses}
+use Rattle.burr_frames.specs.declared.state.meeting.Miss.{Miss}
 
 -- Cutting
 
@@ -97,28 +97,19 @@ parts_met t symbols upper same point many rows =
     let third = ap (drop (length t.least)) after ∙ drop_at (values point upper) (values point same) (length t.least) m in
     λ i. IsMetAt t (first i) (second i) (third i)
 
--- the first point of a region at which a condition fails, if there is one
-abbrev pub FirstFailure : Region → (Point → Type 0) → Option (ArrayVec ℤ) → Type 0
-FirstFailure r P found = MatchOption found (Throughout r P) (λ point. FailsFirstAt r P point.items)
-
--- it is that of a condition which holds at the same points
-pub failure_of_same : (r : Region) (P Q : Point → Type 0) → ((point : Point) → P point → Q point)
-    → ((point : Point) → Q point → P point) → (found : Option (ArrayVec ℤ)) → FirstFailure r P found → FirstFailure r Q found
-failure_of_same r P Q there back None h = λ point is. there point (h point is)
-failure_of_same r P Q there back (Some point) h = record {
-  is_point = h.is_point;
-  fails = λ holds. h.fails (back point.items holds);
-  before = λ q is before. there q (h.before q is before);
-}
-
--- what is handed to the search
-pub record Handed : Type 0 where
-  pub region : Region
-  pub target : Target
-  pub asked : List Form
-
-abbrev pub FailsAsHanded : Option (ArrayVec ℤ) → Handed → Type 0
-FailsAsHanded found h = FirstFailure h.region (at_values (IsMetBy h.target) h.asked) found
+-- what is judged of a condition is judged of one that holds at the same points
+pub judged_of_same : (r : Region) (P Q : Point → Type 0) → ((point : Point) → P point → Q point)
+    → ((point : Point) → Q point → P point) → (result : Result ⊤ Miss) → HoldsOrMisses r P result → HoldsOrMisses r Q result
+judged_of_same r P Q there back (Ok _) h = λ point is. there point (h point is)
+judged_of_same r P Q there back (Err miss) (point, first, is) = (
+  point,
+  record {
+    is_point = first.is_point;
+    fails = λ holds. first.fails (back point holds);
+    before = λ q is before. there q (first.before q is before);
+  },
+  is,
+)
 
 -- States
 
@@ -160,8 +151,7 @@ same_of_met s t point there alike operands places =
     map-append (value there) (reverse t.operands) (offset_forms t.places) ∙ (λ i. first i ++ second i)
     ∙ sym (map-append (value point) (reverse s.operands) (offset_forms s.places))
 
--- the first point at which the values do not meet the other state is the first at which they
--- disagree
+-- the values meet the other state just where the states agree
 module _ (s t : AbstractState) (upper least forms : List Form) (alike : IsAlike s t) (many : length forms ≡ length t.ranges)
     (rows : length upper ≡ length least) where
   parts : (point : Point)
@@ -189,9 +179,17 @@ module _ (s t : AbstractState) (upper least forms : List Form) (alike : IsAlike 
         same = same_of_met s t point (values point forms) alike a.0.operands a.0.places;
       })
 
-  pub disagreement : (found : Option (ArrayVec ℤ))
-      → FailsAsHanded found (record { region = region_of s; target = sought_in t least; asked = asked_of s forms upper })
-      → FirstFailure (region_of s) (AgreesAbove s t upper least forms) found
-  disagreement found h =
-      failure_of_same (region_of s) (at_values (IsMetBy (sought_in t least)) (asked_of s forms upper))
-      (AgreesAbove s t upper least forms) met_agrees agrees_met found h
+  pub judged_agreement : (result : Result ⊤ Miss) (r : Region) (ranges : List Range) (guards same asked : List Form) → r ≡ region_of s
+      → ranges ≡ t.ranges → guards ≡ t.guards → same ≡ reverse t.operands ++ offset_forms t.places → asked ≡ asked_of s forms upper
+      → HoldsOrMisses r (at_values (IsMetBy (record { free = 0; ranges = ranges; guards = guards; least = least; same = same })) asked) result
+      → HoldsOrMisses (region_of s) (AgreesAbove s t upper least forms) result
+  judged_agreement result r ranges guards same asked region_is ranges_are guards_are same_are asked_are judged =
+      judged_of_same (region_of s) (at_values (IsMetBy (sought_in t least)) (asked_of s forms upper))
+      (AgreesAbove s t upper least forms) met_agrees agrees_met result
+      (subst (λ (X : Type 0). X) (λ i. HoldsOrMisses (region_is i) (at_values (IsMetBy (record {
+        free = 0;
+        ranges = ranges_are i;
+        guards = guards_are i;
+        least = least;
+        same = same_are i;
+      })) (asked_are i)) result) judged)

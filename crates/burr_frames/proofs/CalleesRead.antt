@@ -51,11 +51,11 @@ lent_callee p kept n callee r is higher few lent =
 
 -- Entry frames
 
-pub no_entry : (labels : List (ℕ × Frame)) → IsFrameFound (slice_get labels 0) None → first_frame labels ≡ None
+pub no_entry : (labels : List (ℕ × Frame)) → slice_get labels 0 ≡ None → first_frame labels ≡ None
 no_entry [] none = refl
 no_entry (label ∷ labels) none = absurd (none-some label (sym none))
 
-pub entry_there : (labels : List (ℕ × Frame)) (f : FrameRef) → IsFrameFound (slice_get labels 0) (Some f)
+pub entry_there : (labels : List (ℕ × Frame)) (f : FrameRef) → IsFrameFound (slice_get labels 0) f
     → first_frame labels ≡ Some (framed (frame_of f))
 entry_there [] f found = absurd (none-some (found.0, framed (frame_of f)) found.1)
 entry_there (label ∷ labels) f found =

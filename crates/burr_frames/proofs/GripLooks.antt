@@ -92,6 +92,10 @@ pub step_looks_on : (homes : List (List Cell)) (s : AbstractState) (direction : 
     → HasCounted (step_looks homes s direction) old new
 step_looks_on homes s direction old new some small (n, looks, more) = (n, inr (some, inr (small, looks)), more)
 
+pub step_looks_large : (homes : List (List Cell)) (s : AbstractState) (direction : Direction) (looks : Counted)
+    → s.grip ≢ 0 → (¬ AllSmallPlaces (moved s.grip direction s.places)) → HasCounted (step_looks homes s direction) looks looks
+step_looks_large homes s direction looks some large = (0, inr (some, inl (large, refl)), none_more looks)
+
 pub aside_looks_on : (homes : List (List Cell)) (s : AbstractState) (direction : Direction) (tray : ℕ) (old new : Counted)
     → IsPartOfTray s.grip s.places s.tray → IsEmptyTray s.places tray
     → HasCounted (clearing_looks homes s s.places (queries.Exit direction)) old new

@@ -1,8 +1,8 @@
 -- The forms in the live slots, found slot by slot.
-use Rattle.std.proofs.Common.{◌≡◌, ℕ, suc, ◌+◌, ◌<◌, ◌≤◌, length, slice_index_or, arith, List, [], ◌∷◌, ◌++◌, drop, Option, Some, None, refl, sym, ap, ◌∙◌, append_assoc}
+use Rattle.std.proofs.Common.{◌≡◌, ℕ, suc, ◌+◌, ◌≤◌, length, get_or, arith, List, [], ◌∷◌, ◌++◌, drop, Option, Some, None, refl, sym, ap, ◌∙◌, append_assoc}
 use Rattle.std.specs.Prelude.{slice_get}
-use Rattle.std.proofs.lemmas.Option.{slice_get-get_or, none-some, same_Some}
-use Rattle.std.proofs.lemmas.List.{drop_all, append-nil}
+use Rattle.std.proofs.lemmas.Option.{none-some, same_Some}
+use Rattle.std.proofs.lemmas.List.{drop_all, drop-drop, get_or-drop, append-nil}
 use Rattle.burr_code.specs.Labels.{with_first}
 use Rattle.burr_code.proofs.Common.Labels.{with_first_is}
 use Rattle.burr_forms.specs.Rules.Forms.{Form}
@@ -25,41 +25,57 @@ in_front_first : (forms : List Form) (form : Form) (others : Option (List Form))
 in_front_first forms form None = refl
 in_front_first forms form (Some others) = ap Some (sym (append_assoc forms (form ∷ []) others))
 
+-- the form that comes next
+at_front : (v : ℕ) (known : List (Option Form)) → get_or (drop v known) 0 None ≡ get_or known v None
+at_front v known = let here : v + 0 ≡ v = omega arith in get_or-drop v known 0 None ∙ ap (λ n. get_or known n None) here
+
+next_skipped : (slots : List (Option Range)) (known : List (Option Form))
+    → live_forms (None ∷ slots) known ≡ live_forms slots (drop 1 known)
+next_skipped slots [] = refl
+next_skipped slots (form ∷ known) = refl
+
+next_known : (range : Range) (slots : List (Option Range)) (known : List (Option Form)) (form : Form) → get_or known 0 None ≡ Some form
+    → live_forms (Some range ∷ slots) known ≡ with_first (Some form) (live_forms slots (drop 1 known))
+next_known range slots [] form e = absurd (none-some form e)
+next_known range slots (first ∷ known) form e = ap (λ (f : Option Form). with_first f (live_forms slots known)) e
+
+next_unknown : (range : Range) (slots : List (Option Range)) (known : List (Option Form)) → get_or known 0 None ≡ None
+    → live_forms (Some range ∷ slots) known ≡ None
+next_unknown range slots [] e = refl
+next_unknown range slots (first ∷ known) e = ap (λ (f : Option Form). with_first f (live_forms slots known)) e
+
 -- a slot that is not live
-pub found_not_live : (forms : List Form) (v : ℕ) (slots : List (Option Range)) (known : List (Option Form)) (slot : Option Form)
-    → slice_get slots v ≡ Some None → slice_get known v ≡ Some slot
-    → found_after forms (v + 1) slots known ≡ found_after forms v slots known
-found_not_live forms v slots known slot e f =
+pub found_not_live : (forms : List Form) (v : ℕ) (slots : List (Option Range)) (known : List (Option Form))
+    → slice_get slots v ≡ Some None → found_after forms (v + 1) slots known ≡ found_after forms v slots known
+found_not_live forms v slots known e =
     sym (ap (λ (s : List (Option Range)). in_front forms (live_forms s (drop v known))) (drop_here slots v None e)
-    ∙ ap (λ (k : List (Option Form)). in_front forms (live_forms (None ∷ drop (v + 1) slots) k)) (drop_here known v slot f))
+    ∙ ap (in_front forms) (next_skipped (drop (v + 1) slots) (drop v known))
+    ∙ ap (λ (k : List (Option Form)). in_front forms (live_forms (drop (v + 1) slots) k)) (drop-drop 1 v known))
 
 -- a live slot whose form is known
 pub found_live : (forms : List Form) (v : ℕ) (slots : List (Option Range)) (known : List (Option Form)) (range : Range) (form : Form)
-    → slice_get slots v ≡ Some (Some range) → slice_get known v ≡ Some (Some form)
+    → slice_get slots v ≡ Some (Some range) → get_or known v None ≡ Some form
     → found_after (forms ++ form ∷ []) (v + 1) slots known ≡ found_after forms v slots known
 found_live forms v slots known range form e f =
     sym (ap (λ (s : List (Option Range)). in_front forms (live_forms s (drop v known))) (drop_here slots v (Some range) e)
-    ∙ ap (λ (k : List (Option Form)). in_front forms (live_forms (Some range ∷ drop (v + 1) slots) k)) (drop_here known v (Some form) f)
+    ∙ ap (in_front forms) (next_known range (drop (v + 1) slots) (drop v known) form (at_front v known ∙ f))
+    ∙ ap (λ (k : List (Option Form)). in_front forms (with_first (Some form) (live_forms (drop (v + 1) slots) k))) (drop-drop 1 v known)
     ∙ in_front_first forms form (live_forms (drop (v + 1) slots) (drop (v + 1) known)))
 
 -- where nothing is known of a live slot
 pub found_nothing : (forms : List Form) (v : ℕ) (slots : List (Option Range)) (known : List (Option Form)) (range : Range)
-    → slice_get slots v ≡ Some (Some range) → slice_get known v ≡ Some None
+    → slice_get slots v ≡ Some (Some range) → get_or known v None ≡ None
     → found_after forms v slots known ≡ None
 found_nothing forms v slots known range e f =
     ap (λ (s : List (Option Range)). in_front forms (live_forms s (drop v known))) (drop_here slots v (Some range) e)
-    ∙ ap (λ (k : List (Option Form)). in_front forms (live_forms (Some range ∷ drop (v + 1) slots) k)) (drop_here known v None f)
+    ∙ ap (in_front forms) (next_unknown range (drop (v + 1) slots) (drop v known) (at_front v known ∙ f))
 
 -- nothing is left after the last slot
 pub found_all : (forms : List Form) (v : ℕ) (slots : List (Option Range)) (known : List (Option Form))
-    → length slots ≤ v → length known ≤ v → found_after forms v slots known ≡ Some forms
-found_all forms v slots known l k =
+    → length slots ≤ v → found_after forms v slots known ≡ Some forms
+found_all forms v slots known l =
     ap (λ (s : List (Option Range)). in_front forms (live_forms s (drop v known))) (drop_all v slots l)
     ∙ ap Some (append-nil forms)
-
--- there is something at a number below the length
-pub known_at : (v : ℕ) (known : List (Option Form)) → length known ≡ 8 → v < 8 → (slot : Option Form) × (slice_get known v ≡ Some slot)
-known_at v known eight l = (slice_index_or known v None, slice_get-get_or known v None (omega (arith, eight, l)))
 
 -- there is a form for each live slot
 pub as_many_found : (slots : List (Option Range)) (known : List (Option Form)) (forms : List Form)

@@ -1,9 +1,8 @@
 ghost use Rattle.std.specs.Prelude.{◌≡◌, Some, option_map};
 ghost use Rattle.burr_frames.specs.Rules.RuleNumbers.{rule_number, rule_name};
-ghost use Rattle.burr_frames.specs.Views.Breaks.{broken_of, plain_break, break_at, missed_break};
+ghost use Rattle.burr_frames.specs.Views.Breaks.{broken_of, plain_break, missed_break};
 
-use crate::state::Miss;
-use burr_forms::Point;
+use burr_forms::{FormTooLarge, Point};
 use std::fmt;
 use thiserror::Error;
 
@@ -105,33 +104,30 @@ impl Break {
     pub(crate) fn plain(rule: Rule) -> Break
         ensures { broken_of result ≡ plain_break rule }
     {
-        Break {
-            rule,
-            pieces: None,
-            point: None,
-        }
+        Break::at(rule, None)
     }
 
-    /// A rule that is broken at a point.
-    pub(crate) fn at(rule: Rule, point: Point) -> Break
-        ensures { broken_of result ≡ break_at rule point.items }
+    /// A rule that is broken at a point; where there is none, without regard to points.
+    pub(crate) fn at(rule: Rule, point: Option<Point>) -> Break
+        ensures { broken_of result ≡ missed_break rule (option_map (λ point. point.items) point) }
     {
         Break {
             rule,
             pieces: None,
-            point: Some(point),
+            point,
         }
     }
+}
 
-    /// A rule that is broken because the frame that it asks for is not met.
-    pub(crate) fn missed(rule: Rule, miss: Miss) -> Break
-        ensures { broken_of result
-            ≡ missed_break rule (option_map (λ point. point.items) miss.point) }
-    {
-        Break {
-            rule,
-            pieces: None,
-            point: miss.point,
-        }
+/// Forms that would be too large break a rule of their own.
+impl From<FormTooLarge> for Break {
+    ghost use Rattle.std.specs.Prelude.{◌≡◌};
+    ghost use Rattle.burr_frames.specs.Views.Breaks.{broken_of, plain_break};
+    ghost use Rattle.burr_frames.specs.declared.rule.Rule.TheVariants as rules;
+
+    ghost from_gives = { λ _ b. broken_of b ≡ plain_break rules.FormTooLarge };
+
+    fn from(_: FormTooLarge) -> Self {
+        Break::plain(Rule::FormTooLarge)
     }
 }

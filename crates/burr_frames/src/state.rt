@@ -17,7 +17,7 @@ ghost use Rattle.burr_frames.specs.Rules.Starts.{start_state, home_position};
 ghost use Rattle.burr_frames.specs.Rules.FramedPlans.{framed};
 ghost use Rattle.burr_frames.specs.Rules.States.{state_of, live_ranges, numbered, region_of};
 ghost use Rattle.burr_frames.specs.Views.StateViews.{IsSmallSlot};
-ghost use Rattle.burr_frames.specs.Views.Changes.{at_cost, with_operand, without_top, with_form, with_grip, in_tray};
+ghost use Rattle.burr_frames.specs.Views.Changes.{at_cost, with_operand, without_top, with_form};
 ghost use Rattle.burr_frames.specs.Rules.ControlRules.{guarded};
 ghost use Rattle.burr_frames.specs.Views.Ranges.{AllInReach};
 ghost use Rattle.burr_frames.specs.Views.Breaks.{HoldsOrBreaks, Pays};
@@ -122,10 +122,7 @@ impl State {
     {
         self.cost
     }
-}
 
-// The state of the start of a run.
-impl State {
     /// The state with this many pieces, 32 at most, all at home in tray 0, with nothing gripped;
     /// nothing is known of the slots, and the cost is 0.
     pub fn at_home(pieces: u8) -> State
@@ -144,39 +141,7 @@ impl State {
             cost: number_form(0),
         }
     }
-}
 
-/// The places of this many pieces, all at home in tray 0.
-fn home_places(pieces: u8) -> ArrayVec<Placement<FormOffset>, MOST_PIECES>
-    requires { pieces ≤ 32 }
-    ensures places { result.items ≡ replicate pieces (On 0 home_position) }
-    ensures small { AllSmallPlaces result.items }
-{
-    let mut places = ArrayVec::new();
-    for _ in 0..pieces {
-        places.push(home(0));
-    }
-    places
-}
-
-/// The place of a piece at home in a tray.
-fn home(tray: u8) -> Placement<FormOffset>
-    ensures place { result ≡ On tray home_position }
-    ensures small { AllSmallPlaces (result ∷ []) }
-{
-    let zero = number_form(0);
-    Placement::On {
-        tray,
-        position: FormOffset {
-            x: zero,
-            y: zero,
-            z: zero,
-        },
-    }
-}
-
-// The state of a frame.
-impl State {
     /// What a frame says: a symbol for each live slot, which is the slot's form.
     pub fn of(frame: &FrameRef<'_>) -> State
         ensures { result ≡ state_of (framed (frame_of frame.now)) }
@@ -192,6 +157,151 @@ impl State {
             cost: frame.cost(),
         }
     }
+
+    /// The same state.
+    pub(super) fn copied(&self) -> State
+        ensures { result ≡ self.now }
+    {
+        State {
+            ranges: copied(self.ranges.as_slice()),
+            guards: copied(self.guards.as_slice()),
+            slots: copied_slots(&self.slots),
+            operands: copied(self.operands.as_slice()),
+            places: copied(self.places.as_slice()),
+            tray: self.tray,
+            grip: self.grip,
+            cost: self.cost,
+        }
+    }
+
+    /// What may still be spent is now this.
+    pub(super) fn set_cost(&mut self, cost: Form)
+        requires { IsSmallForm cost }
+        ensures { self.new ≡ at_cost cost self.old }
+    {
+        self.cost = cost;
+    }
+
+    /// Puts a form on the operands. There is room, the caller's condition.
+    pub(super) fn put(&mut self, form: Form)
+        requires room { length self.old.operands < 8 }
+        requires small { IsSmallForm form }
+        ensures { self.new ≡ with_operand form self.old }
+    {
+        self.operands.push(form);
+    }
+
+    /// Takes the topmost operand off. There is one, the caller's condition.
+    pub(super) fn take_off(&mut self)
+        requires { 0 < length self.old.operands }
+        ensures left { self.new ≡ without_top self.old }
+        ensures room { length self.new.operands < 8 }
+    {
+        let left = self.operands.len() - 1;
+        self.operands.truncate(left);
+    }
+
+    /// Puts a form in slot v.
+    pub(super) fn set_slot(&mut self, v: u8, form: Form)
+        requires slot { v < 8 }
+        requires small { IsSmallForm form }
+        ensures { self.new ≡ with_form v form self.old }
+    {
+        self.slots[usize::from(v)] = Some(form);
+    }
+
+    /// A guard more. There is room, the caller's condition.
+    pub(super) fn add_guard(&mut self, guard: Form)
+        requires room { length self.old.guards < 8 }
+        requires small { IsSmallForm guard }
+        ensures { self.new ≡ guarded guard self.old }
+    {
+        self.guards.push(guard);
+    }
+
+    /// Whether there is no room for a guard more.
+    pub(super) fn guards_are_full(&self) -> bool
+        ensures { IsTrue (not result) ↔ (length self.now.guards < 8) }
+    {
+        self.guards.is_full()
+    }
+
+    /// The state's points.
+    pub(super) fn region(&self) -> Region<'_>
+        ensures points { region result.ranges.now result.guards.now ≡ region_of self.now }
+        ensures few { length result.guards.now ≤ 8 }
+    {
+        Region {
+            ranges: self.ranges.as_slice(),
+            guards: self.guards.as_slice(),
+        }
+    }
+
+    /// That a form is negative at no point; else the rule is broken at the first where it is.
+    pub(super) fn never_negative(&self, form: &Form, rule: Rule) -> Result<(), Break>
+        requires { IsSmallForm form.now }
+        ensures { HoldsOrBreaks self.now (λ point. pos 0 ≤ℤ value point form.now) rule result }
+    {
+        let here = self.region();
+        if here.shows_not_negative(form) {
+            return Ok(());
+        }
+        let forms = [*form];
+        let condition = NotNegative { forms: &forms };
+        match first_failing(here.ranges, here.guards, &condition) {
+            None => Ok(()),
+            Some(point) => Err(Break::at(rule, Some(point))),
+        }
+    }
+
+    /// That no value of some forms is farther from 0 than this; else the rule is broken at the
+    /// first point where one is. There are at most 120 forms, the caller's condition.
+    pub(super) fn stays_within(&self, forms: &[Form], reach: u16, rule: Rule) -> Result<(), Break>
+        requires few { length forms.now ≤ 120 }
+        requires small { AllSmallForms forms.now }
+        ensures { HoldsOrBreaks self.now (λ point. AllInReach reach (values point forms.now))
+            rule result }
+    {
+        let here = self.region();
+        if lie_within(here.ranges, forms, reach) {
+            return Ok(());
+        }
+        let condition = Within { forms, reach };
+        match first_failing(here.ranges, here.guards, &condition) {
+            None => Ok(()),
+            Some(point) => Err(Break::at(rule, Some(point))),
+        }
+    }
+
+    /// The cost after one step: one less, and negative at no point.
+    pub(super) fn paid(&self) -> Result<Form, Break>
+        ensures { Pays self.now result }
+    {
+        let cost = one_less(&self.cost)?;
+        self.never_negative(&cost, Rule::CostTooLow)?;
+        Ok(cost)
+    }
+}
+
+/// The places of this many pieces, all at home in tray 0.
+fn home_places(pieces: u8) -> ArrayVec<Placement<FormOffset>, MOST_PIECES>
+    requires { pieces ≤ 32 }
+    ensures places { result.items ≡ replicate pieces (On 0 home_position) }
+    ensures small { AllSmallPlaces result.items }
+{
+    let zero = number_form(0);
+    let mut places = ArrayVec::new();
+    for _ in 0..pieces {
+        places.push(Placement::On {
+            tray: 0,
+            position: FormOffset {
+                x: zero,
+                y: zero,
+                z: zero,
+            },
+        });
+    }
+    places
 }
 
 /// The ranges of the live slots.
@@ -276,42 +386,14 @@ fn places(frame: &FrameRef<'_>) -> ArrayVec<Placement<FormOffset>, MOST_PIECES>
     places
 }
 
-// Copies of states and of lists.
-impl State {
-    /// The same state.
-    pub(super) fn copied(&self) -> State
-        ensures { result ≡ self.now }
-    {
-        State {
-            ranges: copied(&self.ranges),
-            guards: copied(&self.guards),
-            slots: copied_slots(&self.slots),
-            operands: copied(&self.operands),
-            places: copied(&self.places),
-            tray: self.tray,
-            grip: self.grip,
-            cost: self.cost,
-        }
-    }
-}
-
-/// The same elements.
-pub(super) fn copied<T: Copy + Default, const N: usize>(from: &ArrayVec<T, N>) -> ArrayVec<T, N>
-    ensures { result.items ≡ from.now.items }
+/// These elements, for which there is room: the caller's condition.
+pub(super) fn copied<T: Copy + Default, const N: usize>(from: &[T]) -> ArrayVec<T, N>
+    requires { length from.now ≤ N }
+    ensures { result.items ≡ from.now }
 {
     let mut to = ArrayVec::new();
-    extend(&mut to, from.as_slice());
+    extend(&mut to, from);
     to
-}
-
-/// Puts elements after those of a list. There is room, the caller's condition.
-pub(super) fn extend<T: Copy + Default, const N: usize>(list: &mut ArrayVec<T, N>, more: &[T])
-    requires { length list.old.items + length more.now ≤ N }
-    ensures { list.new.items ≡ list.old.items ++ more.now }
-{
-    if list.try_extend_from_slice(more).is_err() {
-        unreachable!();
-    }
 }
 
 /// The same forms.
@@ -325,133 +407,12 @@ pub(super) fn copied_slots(from: &[Option<Form>; SLOTS]) -> [Option<Form>; SLOTS
     to
 }
 
-// Changes of a part of a state.
-impl State {
-    /// What may still be spent is now this.
-    pub(super) fn set_cost(&mut self, cost: Form)
-        requires { IsSmallForm cost }
-        ensures { self.new ≡ at_cost cost self.old }
-    {
-        self.cost = cost;
-    }
-
-    /// Puts a form on the operands. There is room, the caller's condition.
-    pub(super) fn put(&mut self, form: Form)
-        requires room { length self.old.operands < 8 }
-        requires small { IsSmallForm form }
-        ensures { self.new ≡ with_operand form self.old }
-    {
-        self.operands.push(form);
-    }
-
-    /// Takes the topmost operand off. There is one, the caller's condition.
-    pub(super) fn take_off(&mut self)
-        requires { 0 < length self.old.operands }
-        ensures left { self.new ≡ without_top self.old }
-        ensures room { length self.new.operands < 8 }
-    {
-        let left = self.operands.len() - 1;
-        self.operands.truncate(left);
-    }
-
-    /// Puts a form in slot v.
-    pub(super) fn set_slot(&mut self, v: u8, form: Form)
-        requires slot { v < 8 }
-        requires small { IsSmallForm form }
-        ensures { self.new ≡ with_form v form self.old }
-    {
-        self.slots[usize::from(v)] = Some(form);
-    }
-
-    /// Grips these pieces.
-    pub(super) fn set_grip(&mut self, grip: u32)
-        ensures { self.new ≡ with_grip grip self.old }
-    {
-        self.grip = grip;
-    }
-
-    /// Goes to a tray, with nothing gripped.
-    pub(super) fn go_to(&mut self, tray: u8)
-        ensures { self.new ≡ in_tray tray self.old }
-    {
-        self.tray = tray;
-        self.grip = 0;
-    }
-
-    /// A guard more. There is room, the caller's condition.
-    pub(super) fn add_guard(&mut self, guard: Form)
-        requires room { length self.old.guards < 8 }
-        requires small { IsSmallForm guard }
-        ensures { self.new ≡ guarded guard self.old }
-    {
-        self.guards.push(guard);
-    }
-
-    /// Whether there is no room for a guard more.
-    pub(super) fn guards_are_full(&self) -> bool
-        ensures { IsTrue (not result) ↔ (length self.now.guards < 8) }
-    {
-        self.guards.is_full()
-    }
-}
-
-// Conditions at every point of a state, and what a step costs.
-impl State {
-    /// The state's points.
-    pub(super) fn region(&self) -> Region<'_>
-        ensures points { region result.ranges.now result.guards.now ≡ region_of self.now }
-        ensures few { length result.guards.now ≤ 8 }
-    {
-        Region {
-            ranges: self.ranges.as_slice(),
-            guards: self.guards.as_slice(),
-        }
-    }
-
-    /// That a form is negative at no point; else the rule is broken at the first where it is.
-    pub(super) fn never_negative(&self, form: &Form, rule: Rule) -> Result<(), Break>
-        requires { IsSmallForm form.now }
-        ensures { HoldsOrBreaks self.now (λ point. pos 0 ≤ℤ value point form.now) rule result }
-    {
-        let here = self.region();
-        if here.shows_not_negative(form) {
-            return Ok(());
-        }
-        let forms = [*form];
-        let condition = NotNegative { forms: &forms };
-        match first_failing(here.ranges, here.guards, &condition) {
-            None => Ok(()),
-            Some(point) => Err(Break::at(rule, point)),
-        }
-    }
-
-    /// That no value of some forms is farther from 0 than this; else the rule is broken at the
-    /// first point where one is. There are at most 120 forms, the caller's condition.
-    pub(super) fn stays_within(&self, forms: &[Form], reach: u16, rule: Rule) -> Result<(), Break>
-        requires few { length forms.now ≤ 120 }
-        requires small { AllSmallForms forms.now }
-        ensures { HoldsOrBreaks self.now (λ point. AllInReach reach (values point forms.now))
-            rule result }
-    {
-        let here = self.region();
-        if lie_within(here.ranges, forms, reach) {
-            return Ok(());
-        }
-        let condition = Within { forms, reach };
-        match first_failing(here.ranges, here.guards, &condition) {
-            None => Ok(()),
-            Some(point) => Err(Break::at(rule, point)),
-        }
-    }
-
-    /// The cost after one step: one less, and negative at no point.
-    pub(super) fn paid(&self) -> Result<Form, Break>
-        ensures { Pays self.now result }
-    {
-        let Ok(cost) = one_less(&self.cost) else {
-            return Err(Break::plain(Rule::FormTooLarge));
-        };
-        self.never_negative(&cost, Rule::CostTooLow)?;
-        Ok(cost)
+/// Puts elements after those of a list. There is room, the caller's condition.
+pub(super) fn extend<T: Copy + Default, const N: usize>(list: &mut ArrayVec<T, N>, more: &[T])
+    requires { length list.old.items + length more.now ≤ N }
+    ensures { list.new.items ≡ list.old.items ++ more.now }
+{
+    if list.try_extend_from_slice(more).is_err() {
+        unreachable!();
     }
 }

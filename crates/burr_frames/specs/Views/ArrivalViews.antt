@@ -1,7 +1,8 @@
 -- A state's agreement with a frame, and what an arrival that was judged says of the verdict.
-use Rattle.std.specs.Prelude.{◌≡◌, ◌⊎◌, List, Option, Some, None, Result, Ok, Err, MatchResult, option_map}
+use Rattle.std.specs.Prelude.{◌≡◌, ◌⊎◌, ⊤, List, Option, Some, None, Result, Ok, Err, MatchResult, option_map}
 use Rattle.arrayvec.specs.ArrayVec.{ArrayVec}
 use Rattle.burr_forms.specs.Rules.Forms.{Form, Point, values, AllSmallForms}
+use Rattle.burr_forms.specs.Rules.Conditions.{Region, Throughout, FailsFirstAt}
 use Rattle.burr_container.specs.Rules.Plans.{Frame}
 use Rattle.burr_frames.specs.declared.state.meeting.Miss.{Miss}
 use Rattle.burr_frames.specs.declared.rule.Rule.TheVariants as rules
@@ -22,6 +23,13 @@ arrival_verdict (Ok _) = NoSuccessor
 arrival_verdict (Err miss) = missed_at (option_map (λ point. point.items) miss.point)
 
 -- Agreement
+
+-- the condition holds at each point of a region, or it is missed at the first at which it does not
+abbrev pub HoldsOrMisses : Region → (Point → Type 0) → Result ⊤ Miss → Type 0
+HoldsOrMisses r P result =
+    MatchResult result (λ _. Throughout r P)
+    (λ miss. (point : Point) × FailsFirstAt r P point
+    × (option_map (λ point. point.items) miss.point ≡ Some point))
 
 -- at this point the state agrees with another one, at the point of that which these forms give, and
 -- of the upper forms none is below the least one in its place there

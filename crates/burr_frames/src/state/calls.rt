@@ -19,7 +19,7 @@ use crate::forms::{one_less, placed, substituted};
 use crate::rule::{Break, Rule};
 use crate::state::instructions::{frame_at, has_at_most};
 use crate::state::meeting::Miss;
-use crate::state::{MOST_PIECES, State, copied_slots, extend, symbol};
+use crate::state::{MOST_PIECES, State, copied, copied_slots, extend, symbol};
 use arrayvec::ArrayVec;
 use burr_code::Placement;
 use burr_code::limits::{MOST_GUARDS, MOST_OPERANDS, MOST_RESULTS, MOST_STATE_GUARDS, SLOTS};
@@ -28,7 +28,6 @@ use burr_forms::limits::MOST_POINTS;
 use burr_forms::{Form, FormTooLarge};
 use std::marker::Model;
 
-// The rule of `call`.
 impl State {
     /// `call`: the topmost operands are the arguments of a procedure of a higher number, whose
     /// entry frame they meet; after it the pieces lie as its exit frame says of them and of the
@@ -49,7 +48,7 @@ impl State {
         let Some(exit) = called.exit() else {
             return Err(Break::plain(Rule::BadCall));
         };
-        let Some(entry) = frame_at(called, 0) else {
+        let Ok(entry) = frame_at(called, 0) else {
             return Err(Break::plain(Rule::EntryMissed));
         };
         self.calls(called.params(), &entry, &Exit::of(&exit))
@@ -71,7 +70,7 @@ impl State {
         }
         let live = match self.met_with(arguments.as_slice(), entry) {
             Ok(live) => live,
-            Err(miss) => return Err(Break::missed(Rule::EntryMissed, miss)),
+            Err(miss) => return Err(Break::at(Rule::EntryMissed, miss.point)),
         };
         self.pays_for(arguments.as_slice(), exit, &entry.cost(), live.as_slice())
     }
@@ -89,7 +88,10 @@ impl State {
         ensures { AgreesOrMisses (called_with (reverse arguments.now) self.now)
             (framed (frame_of entry.now)) [] [] result }
     {
-        self.called_with(arguments).met(entry)
+        let mut called = self.copied();
+        called.slots = argument_slots(arguments);
+        called.operands = ArrayVec::new();
+        called.met(entry)
     }
 
     /// A call with these arguments, its entry frame met, of a procedure with an exit frame and a
@@ -129,19 +131,7 @@ impl State {
         ensures few { length self.now.operands ≤ 8 }
     {
         let first = self.operands.len().checked_sub(count)?;
-        Some(taken(&self.operands[first..]))
-    }
-
-    /// The state in which a callee begins with these arguments.
-    fn called_with(&self, arguments: &[Form]) -> State
-        requires few { length arguments.now ≤ 8 }
-        requires small { AllSmallForms arguments.now }
-        ensures { result ≡ called_with (reverse arguments.now) self.now }
-    {
-        let mut called = self.copied();
-        called.slots = argument_slots(arguments);
-        called.operands = ArrayVec::new();
-        called
+        Some(copied(&self.operands[first..]))
     }
 
     /// The cost after one step and a callee's cost, which is a form over these arguments: negative
@@ -152,46 +142,13 @@ impl State {
         requires arguments_small { AllSmallForms arguments.now }
         ensures { PaysBeside self.now (substituted arguments.now cost.now) result }
     {
-        let Ok(callee_cost) = cost.substitute(&padded(arguments)) else {
-            return Err(Break::plain(Rule::FormTooLarge));
-        };
-        let Ok(less) = one_less(&self.cost) else {
-            return Err(Break::plain(Rule::FormTooLarge));
-        };
-        let Ok(left) = less.sub(&callee_cost) else {
-            return Err(Break::plain(Rule::FormTooLarge));
-        };
+        let callee_cost = cost.substitute(&padded(arguments))?;
+        let less = one_less(&self.cost)?;
+        let left = less.sub(&callee_cost)?;
         self.never_negative(&left, Rule::CostTooLow)?;
         Ok(left)
     }
-}
 
-/// The same forms.
-fn taken(forms: &[Form]) -> ArrayVec<Form, MOST_OPERANDS>
-    requires { length forms.now ≤ 8 }
-    ensures { result.items ≡ forms.now }
-{
-    let mut taken = ArrayVec::new();
-    extend(&mut taken, forms);
-    taken
-}
-
-/// The slots in which a callee begins with these arguments.
-fn argument_slots(arguments: &[Form]) -> [Option<Form>; SLOTS]
-    requires few { length arguments.now ≤ 8 }
-    requires small { AllSmallForms arguments.now }
-    ensures slots { result ≡ slots_of (reverse arguments.now) }
-    ensures small { All IsSmallSlot result }
-{
-    let mut slots = [None; SLOTS];
-    for v in 0..arguments.len() {
-        slots[v] = Some(arguments[v]);
-    }
-    slots
-}
-
-// The state after a call.
-impl State {
     /// The state after a call with these arguments, the topmost operands, by the callee's exit
     /// frame, its cost not yet paid: the results are symbols more, with the frame's ranges, and the
     /// topmost operands; its guards hold; and the pieces lie as it says. First there has to be room
@@ -214,12 +171,8 @@ impl State {
         }
         let results = symbols_from(self.ranges.len(), exit.results.len());
         let symbols = joined(arguments, results.as_slice());
-        let Ok(places) = places_with(exit.places.as_slice(), symbols.as_slice()) else {
-            return Err(Break::plain(Rule::FormTooLarge));
-        };
-        let Ok(guards) = guards_with(exit.guards.as_slice(), symbols.as_slice()) else {
-            return Err(Break::plain(Rule::FormTooLarge));
-        };
+        let places = places_with(exit.places.as_slice(), symbols.as_slice())?;
+        let guards = guards_with(exit.guards.as_slice(), symbols.as_slice())?;
         Ok(State {
             ranges,
             guards: joined(self.guards.as_slice(), guards.as_slice()),
@@ -259,6 +212,65 @@ impl State {
         let left = self.operands.len() - gone;
         joined(&self.operands[..left], results)
     }
+
+    /// `ret`: the topmost operands are the results, and they and the pieces are as the procedure's
+    /// exit frame says of its parameters.
+    #[inline(never)]
+    pub fn ret(&self, procedure: ProcedureRef<'_, '_>) -> Result<(), Break>
+        ensures { OfFramedProcedure procedure.entry (λ plan here.
+            ret_rule here self.now (last_verdict result)) }
+    {
+        let Some(exit) = procedure.exit() else {
+            return Err(Break::plain(Rule::ExitMissed));
+        };
+        self.returns(&exit)
+    }
+
+    /// The same of a procedure with this exit frame.
+    fn returns(&self, exit: &ExitRef<'_>) -> Result<(), Break>
+        ensures { (here : FramedProcedure) → here.exit ≡ Some (framed_ref exit.now)
+            → here.parameters ≡ parameters_of exit.now
+            → here.results ≡ length (framed_ref exit.now).results
+            → ret_rule here self.now (last_verdict result) }
+    {
+        let Some(parameters) = self.first_forms(exit.parameters()) else {
+            return Err(Break::plain(Rule::ExitMissed));
+        };
+        let exit = Exit::of(exit);
+        let Some(results) = self.top_many(exit.results.len()) else {
+            return Err(Break::plain(Rule::MissingOperand));
+        };
+        self.paid()?;
+        match self.meets_exit_with(&exit, parameters.as_slice(), results.as_slice()) {
+            Ok(()) => Ok(()),
+            Err(miss) => Err(Break::at(Rule::ExitMissed, miss.point)),
+        }
+    }
+
+    /// The forms in the first slots; None where one of them is not known.
+    pub(super) fn first_forms(&self, count: u8) -> Option<ArrayVec<Form, SLOTS>>
+        ensures { GivesFirstForms count self.now.slots result }
+    {
+        let mut forms = ArrayVec::new();
+        for v in 0..count {
+            forms.push(self.slot(v)?);
+        }
+        Some(forms)
+    }
+}
+
+/// The slots in which a callee begins with these arguments.
+fn argument_slots(arguments: &[Form]) -> [Option<Form>; SLOTS]
+    requires few { length arguments.now ≤ 8 }
+    requires small { AllSmallForms arguments.now }
+    ensures slots { result ≡ slots_of (reverse arguments.now) }
+    ensures small { All IsSmallSlot result }
+{
+    let mut slots = [None; SLOTS];
+    for v in 0..arguments.len() {
+        slots[v] = Some(arguments[v]);
+    }
+    slots
 }
 
 /// The forms of `count` symbols, from symbol `first` on.
@@ -334,11 +346,7 @@ pub(super) fn padded(forms: &[Form]) -> [Form; SLOTS]
     ensures padded { substituted result ≡ substituted forms.now }
     ensures small { AllSmallForms result }
 {
-    let zero = Form {
-        constant: 0,
-        coefs: [0; SLOTS],
-    };
-    let mut padded = [zero; SLOTS];
+    let mut padded = [Form::default(); SLOTS];
     for symbol in 0..forms.len() {
         padded[symbol] = forms[symbol];
     }
@@ -427,55 +435,4 @@ fn places(exit: &ExitRef<'_>) -> ArrayVec<Placement<FormOffset>, MOST_PIECES>
         places.push(placed(exit.place(p)));
     }
     places
-}
-
-// The rule of `ret`.
-impl State {
-    /// `ret`: the topmost operands are the results, and they and the pieces are as the procedure's
-    /// exit frame says of its parameters.
-    #[inline(never)]
-    pub fn ret(&self, procedure: ProcedureRef<'_, '_>) -> Result<(), Break>
-        ensures { OfFramedProcedure procedure.entry (λ plan here.
-            ret_rule here self.now (last_verdict result)) }
-    {
-        let Some(exit) = procedure.exit() else {
-            return Err(Break::plain(Rule::ExitMissed));
-        };
-        self.returns(&exit)
-    }
-
-    /// The same of a procedure with this exit frame.
-    fn returns(&self, exit: &ExitRef<'_>) -> Result<(), Break>
-        ensures { (here : FramedProcedure) → here.exit ≡ Some (framed_ref exit.now)
-            → here.parameters ≡ parameters_of exit.now
-            → here.results ≡ length (framed_ref exit.now).results
-            → ret_rule here self.now (last_verdict result) }
-    {
-        let Some(parameters) = self.first_forms(exit.parameters()) else {
-            return Err(Break::plain(Rule::ExitMissed));
-        };
-        let exit = Exit::of(exit);
-        let Some(results) = self.top_many(exit.results.len()) else {
-            return Err(Break::plain(Rule::MissingOperand));
-        };
-        self.paid()?;
-        match self.meets_exit_with(&exit, parameters.as_slice(), results.as_slice()) {
-            Ok(()) => Ok(()),
-            Err(miss) => Err(Break::missed(Rule::ExitMissed, miss)),
-        }
-    }
-
-    /// The forms in the first slots; None where one of them is not known.
-    pub(super) fn first_forms(&self, count: u8) -> Option<ArrayVec<Form, SLOTS>>
-        ensures { GivesFirstForms count self.now.slots result }
-    {
-        let mut forms = ArrayVec::new();
-        for v in 0..count {
-            let Some(form) = self.slot(v) else {
-                return None;
-            };
-            forms.push(form);
-        }
-        Some(forms)
-    }
 }

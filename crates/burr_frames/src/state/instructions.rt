@@ -8,8 +8,9 @@ ghost use Rattle.burr_forms.specs.declared.limits.TheConstants.{MOST_POINTS};
 ghost use Rattle.burr_forms.specs.Rules.Points.{IsRange, AreRanges, box_size};
 ghost use Rattle.burr_container.specs.Rules.Plans.{Frame as FrameOf};
 ghost use Rattle.burr_frames.specs.Rules.NumberRules.{push_rule, load_rule, store_rule, add_rule, sub_rule, drop_rule, result_rule};
-ghost use Rattle.burr_frames.specs.Views.Breaks.{next_verdict, last_verdict, branch_verdict, FindsCounter, ArrivesOrBreaks};
-ghost use Rattle.burr_frames.specs.Views.Here.{OfFramedProcedure, IsFrameFound, IsSomeOf};
+ghost use Rattle.burr_frames.specs.Views.Breaks.{next_verdict, last_verdict, branch_verdict, FindsOrBreaks, FindsCounter, ArrivesOrBreaks};
+ghost use Rattle.burr_frames.specs.declared.rule.Rule.TheVariants as rules;
+ghost use Rattle.burr_frames.specs.Views.Here.{OfFramedProcedure, FindsFrame, IsSomeOf};
 ghost use Rattle.burr_frames.specs.Rules.ControlRules.{halt_rule, jump_rule, down_rule, branch_rule, lowering, counted_down, HasRoomForSymbols};
 ghost use Rattle.burr_frames.specs.Rules.Verdicts.{falls_through, arriving_at_all, no_successor};
 ghost use Rattle.burr_frames.specs.Rules.QuestionRules.{ask_rule, pick_rule, with_symbol, asked};
@@ -18,13 +19,13 @@ use crate::forms::{number_form, one_less};
 use crate::rule::{Break, Rule};
 use crate::state::meeting::arrives;
 use crate::state::{State, copied, symbol};
+use arrayvec::ArrayVec;
 use burr_code::limits::{MOST_NUMBER, SLOTS};
 use burr_code::{Labels, are_all_apart};
 use burr_container::{FrameRef, ProcedureRef};
 use burr_forms::Form;
 use burr_forms::limits::{MOST_POINTS, MOST_SYMBOLS};
 
-// The rules of the instructions that change numbers.
 impl State {
     /// `push`: a number more on the operands.
     pub fn push(&mut self, number: i16) -> Result<(), Break>
@@ -46,9 +47,7 @@ impl State {
         ensures verdict { load_rule self.old v (next_verdict self.new result) }
         ensures kept { IfErr result (λ _. self.new ≡ self.old) }
     {
-        let Some(form) = self.form_in(v) else {
-            return Err(Break::plain(Rule::EmptySlot));
-        };
+        let form = self.form_in(v).ok_or(Break::plain(Rule::EmptySlot))?;
         if self.is_full() {
             return Err(Break::plain(Rule::StackFull));
         }
@@ -63,12 +62,8 @@ impl State {
         ensures verdict { add_rule self.old (next_verdict self.new result) }
         ensures kept { IfErr result (λ _. self.new ≡ self.old) }
     {
-        let Some((upper, lower)) = self.two_topmost() else {
-            return Err(Break::plain(Rule::MissingOperand));
-        };
-        let Ok(sum) = lower.add(&upper) else {
-            return Err(Break::plain(Rule::FormTooLarge));
-        };
+        let (upper, lower) = self.two_topmost()?;
+        let sum = lower.add(&upper)?;
         self.put_result(sum)
     }
 
@@ -77,12 +72,8 @@ impl State {
         ensures verdict { sub_rule self.old (next_verdict self.new result) }
         ensures kept { IfErr result (λ _. self.new ≡ self.old) }
     {
-        let Some((upper, lower)) = self.two_topmost() else {
-            return Err(Break::plain(Rule::MissingOperand));
-        };
-        let Ok(difference) = lower.sub(&upper) else {
-            return Err(Break::plain(Rule::FormTooLarge));
-        };
+        let (upper, lower) = self.two_topmost()?;
+        let difference = lower.sub(&upper)?;
         self.put_result(difference)
     }
 
@@ -108,9 +99,7 @@ impl State {
         ensures verdict { drop_rule self.old (next_verdict self.new result) }
         ensures kept { IfErr result (λ _. self.new ≡ self.old) }
     {
-        if self.topmost().is_none() {
-            return Err(Break::plain(Rule::MissingOperand));
-        }
+        self.topmost().ok_or(Break::plain(Rule::MissingOperand))?;
         let cost = self.paid()?;
         self.set_cost(cost);
         self.take_off();
@@ -128,9 +117,7 @@ impl State {
         if v < procedure.params() {
             return Err(Break::plain(Rule::ParamWritten));
         }
-        let Some(form) = self.topmost() else {
-            return Err(Break::plain(Rule::MissingOperand));
-        };
+        let form = self.topmost().ok_or(Break::plain(Rule::MissingOperand))?;
         let cost = self.paid()?;
         self.set_cost(cost);
         self.take_off();
@@ -138,17 +125,17 @@ impl State {
         Ok(())
     }
 
-    /// The two topmost operands, the upper one first; None where there are fewer.
-    fn two_topmost(&self) -> Option<(Form, Form)>
-        ensures two { MatchOption result (top_two self.now.operands ≡ None)
-            (λ f. (2 ≤ length self.now.operands)
-            × (top_two self.now.operands ≡ Some (f.0, f.1, drop 2 self.now.operands))) }
-        ensures small { IfSome result (λ f. IsSmallForm f.0 × IsSmallForm f.1) }
+    /// The two topmost operands, the upper one first.
+    fn two_topmost(&self) -> Result<(Form, Form), Break>
+        ensures two { FindsOrBreaks (λ f. (2 ≤ length self.now.operands)
+            × (top_two self.now.operands ≡ Some (f.0, f.1, drop 2 self.now.operands)))
+            (top_two self.now.operands ≡ None) rules.MissingOperand result }
+        ensures small { IfOk result (λ f. IsSmallForm f.0 × IsSmallForm f.1) }
     {
         let [.., lower, upper] = self.operands.as_slice() else {
-            return None;
+            return Err(Break::plain(Rule::MissingOperand));
         };
-        Some((*upper, *lower))
+        Ok((*upper, *lower))
     }
 
     /// The topmost operand; None where there is no operand.
@@ -175,10 +162,9 @@ impl State {
     {
         self.slots[usize::from(v)]
     }
-}
 
-// The rules of the instructions of the flow of control.
-impl State {
+    // The rules of the instructions of the flow of control.
+
     /// `halt`: in main, with all pieces apart.
     pub fn halt(&self, procedure: ProcedureRef<'_, '_>) -> Result<(), Break>
         ensures { halt_rule procedure.entry.number self.now (last_verdict result) }
@@ -186,7 +172,7 @@ impl State {
         if procedure.number() != 0 {
             return Err(Break::plain(Rule::ExitMissed));
         }
-        if !self.are_all_apart() {
+        if !are_all_apart(self.places()) {
             return Err(Break::plain(Rule::NotApart));
         }
         self.paid()?;
@@ -199,9 +185,7 @@ impl State {
         ensures { OfFramedProcedure procedure.entry (λ plan here.
             jump_rule here self.now label (last_verdict result)) }
     {
-        let Some(frame) = frame_at(procedure, label) else {
-            return Err(Break::plain(Rule::BadJump));
-        };
+        let frame = frame_at(procedure, label)?;
         let cost = self.paid()?;
         let mut paid = self.copied();
         paid.set_cost(cost);
@@ -217,9 +201,7 @@ impl State {
             down_rule here self.old v label (next_verdict self.new result)) }
         ensures kept { IfErr result (λ _. self.new ≡ self.old) }
     {
-        let Some(frame) = frame_at(procedure, label) else {
-            return Err(Break::plain(Rule::BadJump));
-        };
+        let frame = frame_at(procedure, label)?;
         let count = self.counter(procedure, v)?;
         let branch = self.lowered(v, &count)?;
         branch.arrives_or_breaks(&frame)?;
@@ -236,9 +218,7 @@ impl State {
         ensures { OfFramedProcedure procedure.entry (λ plan here.
             branch_rule here self.now v label (branch_verdict result)) }
     {
-        let Some(_frame) = frame_at(procedure, label) else {
-            return Err(Break::plain(Rule::BadJump));
-        };
+        frame_at(procedure, label)?;
         let count = self.counter(procedure, v)?;
         self.lowered(v, &count)
     }
@@ -253,10 +233,7 @@ impl State {
         if slot < procedure.params() {
             return Err(Break::plain(Rule::ParamWritten));
         }
-        let Some(count) = self.form_in(slot) else {
-            return Err(Break::plain(Rule::EmptySlot));
-        };
-        Ok(count)
+        self.form_in(slot).ok_or(Break::plain(Rule::EmptySlot))
     }
 
     /// The state with the counter in slot v, above 0, one less than this form, and the step paid
@@ -268,9 +245,7 @@ impl State {
         ensures { lowering self.now count.now
             (λ paid. falls_through (counted_down v count.now paid)) (branch_verdict result) }
     {
-        let Ok(less) = one_less(count) else {
-            return Err(Break::plain(Rule::FormTooLarge));
-        };
+        let less = one_less(count)?;
         self.never_negative(count, Rule::BadCount)?;
         if self.guards_are_full() {
             return Err(Break::plain(Rule::StateTooLarge));
@@ -289,36 +264,12 @@ impl State {
     {
         match arrives(self, frame) {
             Ok(()) => Ok(()),
-            Err(miss) => Err(Break::missed(Rule::FrameMissed, miss)),
+            Err(miss) => Err(Break::at(Rule::FrameMissed, miss.point)),
         }
     }
 
-    /// Whether each piece is apart.
-    fn are_all_apart(&self) -> bool
-        ensures { IsTrue result ↔ AllApart self.now.places }
-    {
-        are_all_apart(self.places.as_slice())
-    }
-}
+    // The rules of the instructions that ask.
 
-/// The form with each number the other way.
-fn negated(form: &Form) -> Form
-    requires small { IsSmallForm form.now }
-    ensures form { result ≡ times (neg_ℤ (pos 1)) form.now }
-    ensures small { IsSmallForm result }
-{
-    let mut coefs = form.coefs;
-    for symbol in 0..MOST_SYMBOLS {
-        coefs[symbol] = -form.coefs[symbol];
-    }
-    Form {
-        constant: -form.constant,
-        coefs,
-    }
-}
-
-// The rules of the instructions that ask.
-impl State {
     /// `ask`: a symbol of this range more, which is the topmost operand.
     #[inline(never)]
     pub fn ask(&mut self, low: i16, high: i16) -> Result<(), Break>
@@ -368,9 +319,7 @@ impl State {
             let Some(label) = labels.get(number) else {
                 unreachable!();
             };
-            let Some(frame) = frame_at(procedure, label) else {
-                return Err(Break::plain(Rule::BadJump));
-            };
+            let frame = frame_at(procedure, label)?;
             self.arrives_or_breaks(&frame)?;
         }
         Ok(())
@@ -385,7 +334,7 @@ impl State {
         if self.ranges.is_full() {
             return false;
         }
-        let mut ranges = copied(&self.ranges);
+        let mut ranges: ArrayVec<_, SLOTS> = copied(self.ranges.as_slice());
         ranges.push((i32::from(low), i32::from(high)));
         has_at_most(ranges.as_slice(), MOST_POINTS)
     }
@@ -418,6 +367,22 @@ impl State {
     }
 }
 
+/// The form with each number the other way.
+fn negated(form: &Form) -> Form
+    requires small { IsSmallForm form.now }
+    ensures form { result ≡ times (neg_ℤ (pos 1)) form.now }
+    ensures small { IsSmallForm result }
+{
+    let mut coefs = form.coefs;
+    for symbol in 0..MOST_SYMBOLS {
+        coefs[symbol] = -form.coefs[symbol];
+    }
+    Form {
+        constant: -form.constant,
+        coefs,
+    }
+}
+
 /// Whether a box has at most this many points, 1 to 4,096.
 pub(super) fn has_at_most(ranges: &[(i32, i32)], most: u32) -> bool
     requires ranges { AreRanges ranges.now }
@@ -438,16 +403,16 @@ pub(super) fn has_at_most(ranges: &[(i32, i32)], most: u32) -> bool
 
 // Frames of a container by the numbers that instructions name.
 
-/// The frame of a label of a procedure; None where there is no such label.
-pub fn frame_at<'c>(procedure: ProcedureRef<'_, 'c>, label: u16) -> Option<FrameRef<'c>>
+/// The frame of a label of a procedure.
+pub fn frame_at<'c>(procedure: ProcedureRef<'_, 'c>, label: u16) -> Result<FrameRef<'c>, Break>
     ensures { OfFramedProcedure procedure.entry (λ plan here.
-        IsFrameFound (slice_get here.labels label) result) }
+        FindsFrame (slice_get here.labels label) result) }
 {
     let label = usize::from(label);
     if label >= procedure.label_count() {
-        return None;
+        return Err(Break::plain(Rule::BadJump));
     }
-    Some(procedure.frame(label))
+    Ok(procedure.frame(label))
 }
 
 /// Whether a procedure has all of these labels.

@@ -11,7 +11,7 @@ ghost use Rattle.burr_frames.specs.Rules.FramedPlans.{framed};
 ghost use Rattle.burr_frames.specs.Rules.Verdicts.{arriving, meeting, no_successor};
 ghost use Rattle.burr_frames.specs.Rules.States.{Everywhere, IsFirstFailing, state_of};
 ghost use Rattle.burr_frames.specs.Rules.Arrival.{IsAlike};
-ghost use Rattle.burr_frames.specs.Views.ArrivalViews.{arrival_verdict, AgreesAbove, AgreesOrMisses};
+ghost use Rattle.burr_frames.specs.Views.ArrivalViews.{arrival_verdict, AgreesOrMisses, HoldsOrMisses};
 ghost use Rattle.burr_frames.specs.Views.Exits.{miss_verdict, framed_ref, meeting_exit, meeting_exit_with};
 ghost use Rattle.burr_frames.specs.Views.Comparing.{NoneBelow, offset_forms};
 ghost use Rattle.burr_frames.specs.Rules.ControlRules.{IsAlikeExit, MeetsExitAt};
@@ -112,47 +112,85 @@ impl State {
         if !self.is_alike(there) {
             return Err(Miss { point: None });
         }
-        match self.first_disagreement(live.as_slice(), there, upper, least) {
-            None => Ok(live),
-            Some(point) => Err(Miss { point: Some(point) }),
-        }
-    }
-
-    /// The first point at which the state does not agree with another one, at the point of that
-    /// which these forms give, or a value of `upper` is below that of `least` there; None where
-    /// there is no such point. They are alike without regard to points, there is a form for each
-    /// symbol, and one row of both at most: the caller's conditions.
-    fn first_disagreement(
-        &self,
-        forms: &[Form],
-        there: &State,
-        upper: &[Form],
-        least: &[Form],
-    ) -> Option<Point>
-        requires alike { IsAlike self.now there.now }
-        requires many { length forms.now ≡ length there.now.ranges }
-        requires few { length forms.now ≤ 8 }
-        requires small { AllSmallForms forms.now }
-        requires rows { length upper.now ≡ length least.now }
-        requires one { length least.now ≤ 1 }
-        requires upper_small { AllSmallForms upper.now }
-        requires least_small { AllSmallForms least.now }
-        ensures { MatchOption result
-            (Everywhere self.now (AgreesAbove self.now there.now upper.now least.now forms.now))
-            (λ found. IsFirstFailing self.now
-            (AgreesAbove self.now there.now upper.now least.now forms.now) found.items) }
-    {
-        let compared = self.compared(forms, upper);
-        let met = there.compared(&[], &[]);
+        let ours = compared(live.as_slice(), upper, self.operands(), self.places());
+        let theirs = compared(&[], &[], there.operands(), there.places());
         let agreement = Agreement {
-            forms: compared.as_slice(),
+            forms: ours.as_slice(),
             free: 0,
             ranges: there.ranges.as_slice(),
             guards: there.guards.as_slice(),
             least,
-            same: met.as_slice(),
+            same: theirs.as_slice(),
         };
-        agreement.first_missed(&self.region())
+        agreement.holds_in(&self.region())?;
+        Ok(live)
+    }
+
+    /// The forms in the slots that are live in a frame; None where one of them is not known.
+    pub(super) fn live_forms(&self, frame: &FrameRef<'_>) -> Option<ArrayVec<Form, SLOTS>>
+        ensures { GivesLiveForms (frame_of frame.now).slots self.now.slots result }
+    {
+        let mut forms = ArrayVec::new();
+        for v in 0..SLOTS as u8 {
+            if frame.slot(v).is_none() {
+                continue;
+            }
+            forms.push(self.slot(v)?);
+        }
+        Some(forms)
+    }
+
+    /// Whether the current tray, the grip, the number of operands and each piece's tray are those
+    /// of another state.
+    pub(super) fn is_alike(&self, other: &State) -> bool
+        ensures { IsTrue result ↔ IsAlike self.now other.now }
+    {
+        self.tray == other.tray
+            && self.grip == other.grip
+            && self.operands.len() == other.operands.len()
+            && are_in_same_trays(self.places.as_slice(), other.places.as_slice())
+    }
+
+    /// Whether the current tray and the grip are those of an exit frame, and each piece's tray is
+    /// that of its places.
+    pub(super) fn is_alike_exit(&self, exit: &Exit) -> bool
+        ensures { IsTrue result ↔ IsAlikeExit self.now exit.now }
+    {
+        self.tray == exit.tray
+            && self.grip == exit.grip
+            && are_in_same_trays(self.places.as_slice(), exit.places.as_slice())
+    }
+
+    /// Whether the state meets an exit frame where these forms are the parameters and the results.
+    #[inline(never)]
+    pub(in crate::state) fn meets_exit_with(
+        &self,
+        exit: &Exit,
+        parameters: &[Form],
+        results: &[Form],
+    ) -> Result<(), Miss>
+        requires many { length results.now ≡ length exit.now.results }
+        requires few { length parameters.now + length results.now ≤ 8 }
+        requires small { AllSmallForms parameters.now }
+        requires results_small { AllSmallForms results.now }
+        ensures { meeting_exit_with self.now exit.now parameters.now results.now
+            (miss_verdict rules.ExitMissed result) }
+    {
+        if !self.is_alike_exit(exit) {
+            return Err(Miss { point: None });
+        }
+        let symbols = joined(parameters, results);
+        let ours = compared(symbols.as_slice(), &[], &[], self.places());
+        let theirs = compared(&[], &[], &[], exit.places.as_slice());
+        let agreement = Agreement {
+            forms: ours.as_slice(),
+            free: parameters.len(),
+            ranges: exit.results.as_slice(),
+            guards: exit.guards.as_slice(),
+            least: &[],
+            same: theirs.as_slice(),
+        };
+        agreement.holds_in(&self.region())
     }
 }
 
@@ -212,21 +250,21 @@ impl Agreement<'_> {
     ghost use Rattle.burr_frames.specs.Views.Shown.{ShowsMetBy};
     ghost use Rattle.burr_frames.specs.Views.Targets.{target_of};
 
-    /// The first point of a region at which the agreement fails, as `first_failing` gives it.
-    fn first_missed(&self, here: &Region<'_>) -> Option<Point>
+    /// That the agreement holds at each point of a region; else it is missed at the first where it
+    /// does not.
+    fn holds_in(&self, here: &Region<'_>) -> Result<(), Miss>
         requires few_guards { length here.now.guards.now ≤ 120 }
         requires few_forms { length self.now.forms.now ≤ 120 }
         requires forms { AllSmallForms self.now.forms.now }
-        ensures { MatchOption result
-            (Throughout (region here.now.ranges.now here.now.guards.now)
-            (at_values (IsMetBy (target_of self.now)) self.now.forms.now))
-            (λ point. FailsFirstAt (region here.now.ranges.now here.now.guards.now)
-            (at_values (IsMetBy (target_of self.now)) self.now.forms.now) point.items) }
+        ensures { HoldsOrMisses (region here.now.ranges.now here.now.guards.now)
+            (at_values (IsMetBy (target_of self.now)) self.now.forms.now) result }
     {
-        if has_at_most(here.ranges, FEW_POINTS) || !self.is_settled(here) {
-            first_failing(here.ranges, here.guards, self)
-        } else {
-            None
+        if !has_at_most(here.ranges, FEW_POINTS) && self.is_settled(here) {
+            return Ok(());
+        }
+        match first_failing(here.ranges, here.guards, self) {
+            None => Ok(()),
+            Some(point) => Err(Miss { point: Some(point) }),
         }
     }
 
@@ -339,68 +377,6 @@ fn are_values(forms: &[Form], symbols: &[i64], numbers: &[i64]) -> bool
     true
 }
 
-// What a state and a frame have in common without regard to points, and which forms are compared
-// at points.
-impl State {
-    /// The forms in the slots that are live in a frame; None where one of them is not known.
-    pub(super) fn live_forms(&self, frame: &FrameRef<'_>) -> Option<ArrayVec<Form, SLOTS>>
-        ensures { GivesLiveForms (frame_of frame.now).slots self.now.slots result }
-    {
-        live_forms(&self.slots, frame)
-    }
-
-    /// Whether the current tray, the grip, the number of operands and each piece's tray are those
-    /// of another state.
-    pub(super) fn is_alike(&self, other: &State) -> bool
-        ensures { IsTrue result ↔ IsAlike self.now other.now }
-    {
-        if self.tray != other.tray || self.grip != other.grip {
-            return false;
-        }
-        if self.operands.len() != other.operands.len() {
-            return false;
-        }
-        are_in_same_trays(self.places.as_slice(), other.places.as_slice())
-    }
-
-    /// Whether the current tray and the grip are those of an exit frame, and each piece's tray is
-    /// that of its places.
-    pub(super) fn is_alike_exit(&self, exit: &Exit) -> bool
-        ensures { IsTrue result ↔ IsAlikeExit self.now exit.now }
-    {
-        if self.tray != exit.tray || self.grip != exit.grip {
-            return false;
-        }
-        are_in_same_trays(self.places.as_slice(), exit.places.as_slice())
-    }
-}
-
-/// The forms in the slots that are live in a frame; None where one of them is not known.
-fn live_forms(slots: &[Option<Form>; SLOTS], frame: &FrameRef<'_>) -> Option<ArrayVec<Form, SLOTS>>
-    requires { All IsSmallSlot slots.now }
-    ensures { GivesLiveForms (frame_of frame.now).slots slots.now result }
-{
-    let mut forms = ArrayVec::new();
-    for v in 0..SLOTS as u8 {
-        if frame.slot(v).is_none() {
-            continue;
-        }
-        let Some(form) = form_of(slots, v) else {
-            return None;
-        };
-        forms.push(form);
-    }
-    Some(forms)
-}
-
-/// The form in slot v.
-fn form_of(slots: &[Option<Form>; SLOTS], v: u8) -> Option<Form>
-    requires { v < 8 }
-    ensures { slice_get slots.now v ≡ Some result }
-{
-    slots[usize::from(v)]
-}
-
 /// Whether each piece is apart in both, or in the same tray.
 fn are_in_same_trays(places: &[Placement<FormOffset>], others: &[Placement<FormOffset>]) -> bool
     ensures { IsTrue result ↔ (map tray_of places.now ≡ map tray_of others.now) }
@@ -416,41 +392,30 @@ fn are_in_same_trays(places: &[Placement<FormOffset>], others: &[Placement<FormO
     true
 }
 
-impl State {
-    /// Forms of the state to be compared: those of symbols, others, and those of the operands, the
-    /// bottom first, and of the offsets, piece by piece.
-    pub(super) fn compared(&self, symbols: &[Form], others: &[Form]) -> ArrayVec<Form, MOST_FORMS>
-        requires few { length symbols.now ≤ 8 }
-        requires other { length others.now ≤ 1 }
-        requires small { AllSmallForms symbols.now }
-        requires others_small { AllSmallForms others.now }
-        ensures forms { result.items ≡ symbols.now
-            ++ (others.now ++ (reverse self.now.operands ++ offset_forms self.now.places)) }
-        ensures small { AllSmallForms result.items }
-    {
-        let mut forms = ArrayVec::new();
-        append(&mut forms, symbols);
-        append(&mut forms, others);
-        append(&mut forms, self.operands.as_slice());
-        append_offsets(&mut forms, self.places.as_slice());
-        forms
-    }
-}
-
-/// Forms, and after them those of offsets, piece by piece.
-pub(super) fn with_offsets(
+/// Forms to be compared: those of symbols, others, those of operands, the bottom first, and those
+/// of offsets, piece by piece.
+fn compared(
     symbols: &[Form],
+    others: &[Form],
+    operands: &[Form],
     places: &[Placement<FormOffset>],
 ) -> ArrayVec<Form, MOST_FORMS>
     requires few { length symbols.now ≤ 8 }
+    requires other { length others.now ≤ 1 }
+    requires top { length operands.now ≤ 8 }
     requires pieces { length places.now ≤ 32 }
     requires small { AllSmallForms symbols.now }
+    requires others_small { AllSmallForms others.now }
+    requires operands_small { AllSmallForms operands.now }
     requires places_small { AllSmallPlaces places.now }
-    ensures forms { result.items ≡ symbols.now ++ offset_forms places.now }
+    ensures forms { result.items
+        ≡ symbols.now ++ (others.now ++ (operands.now ++ offset_forms places.now)) }
     ensures small { AllSmallForms result.items }
 {
     let mut forms = ArrayVec::new();
     append(&mut forms, symbols);
+    append(&mut forms, others);
+    append(&mut forms, operands);
     append_offsets(&mut forms, places);
     forms
 }
@@ -513,58 +478,4 @@ pub fn meets_exit(state: &State, exit: &ExitRef<'_>) -> Result<(), Miss>
         return Err(Miss { point: None });
     };
     state.meets_exit_with(&exit, forms.as_slice(), results.as_slice())
-}
-
-impl State {
-    /// Whether the state meets an exit frame where these forms are the parameters and the results.
-    #[inline(never)]
-    pub(in crate::state) fn meets_exit_with(
-        &self,
-        exit: &Exit,
-        parameters: &[Form],
-        results: &[Form],
-    ) -> Result<(), Miss>
-        requires many { length results.now ≡ length exit.now.results }
-        requires few { length parameters.now + length results.now ≤ 8 }
-        requires small { AllSmallForms parameters.now }
-        requires results_small { AllSmallForms results.now }
-        ensures { meeting_exit_with self.now exit.now parameters.now results.now
-            (miss_verdict rules.ExitMissed result) }
-    {
-        if !self.is_alike_exit(exit) {
-            return Err(Miss { point: None });
-        }
-        match self.first_exit_missed(parameters, results, exit) {
-            None => Ok(()),
-            Some(point) => Err(Miss { point: Some(point) }),
-        }
-    }
-
-    /// The first point at which the state is not as an exit frame says of the parameters and the
-    /// results, which are these forms; None where there is no such point. Each piece's tray is the
-    /// same, the caller's condition.
-    fn first_exit_missed(&self, parameters: &[Form], results: &[Form], exit: &Exit) -> Option<Point>
-        requires alike { IsAlikeExit self.now exit.now }
-        requires many { length results.now ≡ length exit.now.results }
-        requires few { length parameters.now + length results.now ≤ 8 }
-        requires small { AllSmallForms parameters.now }
-        requires results_small { AllSmallForms results.now }
-        ensures { MatchOption result
-            (Everywhere self.now (MeetsExitAt self.now exit.now parameters.now results.now))
-            (λ found. IsFirstFailing self.now
-            (MeetsExitAt self.now exit.now parameters.now results.now) found.items) }
-    {
-        let symbols = joined(parameters, results);
-        let compared = with_offsets(symbols.as_slice(), self.places.as_slice());
-        let same = with_offsets(&[], exit.places.as_slice());
-        let agreement = Agreement {
-            forms: compared.as_slice(),
-            free: parameters.len(),
-            ranges: exit.results.as_slice(),
-            guards: exit.guards.as_slice(),
-            least: &[],
-            same: same.as_slice(),
-        };
-        agreement.first_missed(&self.region())
-    }
 }

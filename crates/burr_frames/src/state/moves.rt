@@ -32,12 +32,12 @@ impl State {
         ensures verdict { grip_rule self.old group (next_verdict self.new result) }
         ensures kept { IfErr result (λ _. self.new ≡ self.old) }
     {
-        if !self.all_lie_here(group) {
+        if !all_lie_in(self.places(), self.tray(), group) {
             return Err(Break::plain(Rule::GripOff));
         }
         let cost = self.paid()?;
         self.set_cost(cost);
-        self.set_grip(group);
+        self.grip = group;
         Ok(())
     }
 
@@ -48,7 +48,8 @@ impl State {
     {
         let cost = self.paid()?;
         self.set_cost(cost);
-        self.go_to(tray);
+        self.tray = tray;
+        self.grip = 0;
         Ok(())
     }
 
@@ -73,7 +74,7 @@ impl State {
         if self.grip == 0 {
             return Err(Break::plain(Rule::BadGroup));
         }
-        if !self.can_shift(direction) {
+        if !can_shift_group(self.places(), self.grip(), direction) {
             return Err(Break::plain(Rule::FormTooLarge));
         }
         self.shift(direction);
@@ -97,7 +98,7 @@ impl State {
         ensures verdict { free_step self.old direction (next_verdict self.new result) }
         ensures kept { IfErr result (λ _. self.new ≡ self.old) }
     {
-        if !self.can_shift(direction) {
+        if !can_shift_group(self.places(), self.grip(), direction) {
             return Err(Break::plain(Rule::FormTooLarge));
         }
         let cost = self.paid()?;
@@ -125,10 +126,10 @@ impl State {
             (aside_looks (homes_of looks.old.assembly) self.old direction tray)
             looks.old looks.new }
     {
-        if !self.is_part_gripped() {
+        if !is_part_of_tray(self.grip(), self.places(), self.tray()) {
             return Err(Break::plain(Rule::BadGroup));
         }
-        if !self.is_empty(tray) {
+        if !is_empty_tray(self.places(), tray) {
             return Err(Break::plain(Rule::TrayInUse));
         }
         self.goes_clear(looks, Query::Exit(direction), Rule::NotFree)?;
@@ -199,13 +200,6 @@ impl State {
         }
     }
 
-    /// Whether no form is too large once the grip has gone one unit along a direction.
-    fn can_shift(&self, direction: Direction) -> bool
-        ensures { IsTrue result ↔ AllSmallPlaces (moved self.now.grip direction self.now.places) }
-    {
-        can_shift_group(self.places.as_slice(), self.grip, direction)
-    }
-
     /// The grip goes one unit along a direction. No form is too large then, the caller's condition.
     fn shift(&mut self, direction: Direction)
         requires { AllSmallPlaces (moved self.old.grip direction self.old.places) }
@@ -221,27 +215,6 @@ impl State {
     {
         take_aside(self.places.as_mut_slice(), self.grip, self.tray, tray);
         self.grip = 0;
-    }
-
-    /// Whether each piece of a set lies in the current tray.
-    fn all_lie_here(&self, set: u32) -> bool
-        ensures { IsTrue result ↔ AllLieIn self.now.places self.now.tray set }
-    {
-        all_lie_in(self.places.as_slice(), self.tray, set)
-    }
-
-    /// Whether the grip has a piece, and not all of the current tray.
-    fn is_part_gripped(&self) -> bool
-        ensures { IsTrue result ↔ IsPartOfTray self.now.grip self.now.places self.now.tray }
-    {
-        is_part_of_tray(self.grip, self.places.as_slice(), self.tray)
-    }
-
-    /// Whether no piece lies in a tray.
-    fn is_empty(&self, tray: u8) -> bool
-        ensures { IsTrue result ↔ IsEmptyTray self.now.places tray }
-    {
-        is_empty_tray(self.places.as_slice(), tray)
     }
 }
 

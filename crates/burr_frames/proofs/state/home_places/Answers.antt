@@ -1,5 +1,6 @@
 -- One more piece at home.
 use Rattle.std.proofs.Common.{◌≡◌, ◌+◌, ℕ, zero, suc, List, [], ◌∷◌, ◌++◌, sym, subst, ap, ◌∙◌, refl, add-one}
+use Rattle.burr_forms.specs.Rules.Forms.{Form}
 use Rattle.std.specs.Prelude.{replicate}
 use Rattle.burr_code.specs.declared.placement.Placement.{Placement}
 use Rattle.burr_code.specs.declared.placement.Placement.TheVariants.{On}
@@ -19,10 +20,13 @@ one_more n x = one_after n x ∙ ap (λ m. replicate m x) (sym (add-one n))
 pub loop-preserved : goal.loop-preserved
 loop-preserved c =
     let before = c.loop.places.items in
-    let element = c.home.result in
+    let zero = c.number_form-zero.result in
+    let small = c.number_form-zero.ensures.small in
+    let element : Placement FormCell = On 0 (record { x = zero; y = zero; z = zero }) in
+    let home : element ≡ On 0 home_position = ap (λ (f : Form). On 0 (record { x = f; y = f; z = f })) c.number_form-zero.ensures.form in
     let items : c.push.new.self.items ≡ before ++ element ∷ [] = c.push.ensures.items in (
-      items ∙ ap (λ (e : Placement FormCell). before ++ e ∷ []) c.home.ensures.place
+      items ∙ ap (λ (e : Placement FormCell). before ++ e ∷ []) home
           ∙ ap (λ (xs : List (Placement FormCell)). xs ++ On 0 home_position ∷ []) c.loop.invariant.0
           ∙ one_more c.loop.counter (On 0 home_position),
-      subst AllSmallPlaces (sym items) (small_append before (element ∷ []) c.loop.invariant.1 c.home.ensures.small),
+      subst AllSmallPlaces (sym items) (small_append before (element ∷ []) c.loop.invariant.1 (small, small, small, tt)),
     )

@@ -3,6 +3,7 @@ use Rattle.std.proofs.Common.{rules, ℕ, All, Option, ◌≡◌, ◌<◌, ◌�
 use Rattle.std.specs.Prelude.{reverse}
 use Rattle.std.proofs.lemmas.List.{reverse-reverse, length-append}
 use Rattle.std.proofs.lemmas.List.Elements.{All-append}
+use Rattle.std.proofs.lemmas.Result.{err_from_is_err_and}
 use Rattle.burr_forms.specs.Rules.Points.{AreRanges}
 use Rattle.burr_forms.specs.Rules.Forms.{Form, IsSmallForm, AllSmallForms, substituted}
 use Rattle.burr_frames.specs.Rules.States.{AbstractState}
@@ -35,8 +36,8 @@ returns-in_default c =
       c.plain.ensures,
     )
 
-pub returns-in_default-guards_with : goal.returns-in_default-guards_with
-returns-in_default-guards_with c =
+pub returns-in_err-guards : goal.returns-in_err-guards
+returns-in_err-guards c =
     let s = c.args.self.now in
     let exit = c.args.exit.now in
     let arguments = c.args.arguments.now in
@@ -48,12 +49,14 @@ returns-in_default-guards_with c =
     c.as_slice-5.ensures.value ∙ c.joined-symbols.ensures ∙ (λ i. arguments ++ results i) in
     let guards : c.as_slice-4.result.now ≡ exit.guards = c.as_slice-4.ensures.value ∙ ap exit_guards c.exit.view_is in
     let few : length s.guards + length exit.guards ≤ 8 = search rules in
-    inr (
+    let p = err_from_is_err_and c.from_residual-in_err-guards.result c.from_residual-in_err-guards.ensures.1 in
+    rw p.1
+    (inr (
       has_room s arguments below exit c.in-Some.ensures.1 few,
       large_guards s arguments below exit
-          (λ small. c.in_default-guards_with.ensures (subst AllSmallForms (λ i. map (substituted (sym made i)) (sym guards i)) small)),
-      c.plain-in_default-guards_with.ensures,
-    )
+          (λ small. c.in_err-guards.ensures (subst AllSmallForms (λ i. map (substituted (sym made i)) (sym guards i)) small)),
+      p.2,
+    ))
 
 pub invariant_of-result : goal.invariant_of-result
 invariant_of-result c = record {
@@ -62,12 +65,12 @@ invariant_of-result c = record {
       subst AllSmallForms (sym c.joined.ensures)
       (All-append IsSmallForm c.as_slice-6.result.now c.as_slice-7.result.now
       (subst AllSmallForms (sym c.as_slice-6.ensures.value) c.self.invariant.guards)
-      (subst AllSmallForms (sym c.as_slice-7.ensures.value) c.in-Ok-guards_with.ensures.1));
+      (subst AllSmallForms (sym c.as_slice-7.ensures.value) c.in_ok-guards.ensures.1));
   slots = subst (λ (slots : List (Option Form)). All IsSmallSlot slots) (sym c.copied_slots.ensures) c.self.invariant.slots;
   operands =
       small_reversed (reverse c.operands_after.result.items)
       (subst AllSmallForms (sym (reverse-reverse c.operands_after.result.items)) c.operands_after.ensures.small);
-  places = c.in-Ok.ensures.1;
+  places = c.in_ok-places.ensures.1;
   cost = c.self.invariant.cost;
 }
 
@@ -85,11 +88,11 @@ returns c =
     let few : length s.guards + length exit.guards ≤ 8 = search rules in
     let made_first : c.as_slice-3.result.now ≡ arguments ++ result_symbols s exit =
     c.as_slice-3.ensures.value ∙ c.joined-symbols.ensures ∙ (λ i. arguments ++ results i) in
-    let guards : c.in-Ok-guards_with.guards.items ≡ map (substituted (arguments ++ result_symbols s exit)) exit.guards =
-    c.in-Ok-guards_with.ensures.0
+    let guards : c.in_ok-guards.guards.items ≡ map (substituted (arguments ++ result_symbols s exit)) exit.guards =
+    c.in_ok-guards.ensures.0
     ∙ (λ i. map (substituted (made i)) ((c.as_slice-4.ensures.value ∙ ap exit_guards c.exit.view_is) i)) in
-    let places : c.in-Ok.places.items ≡ substituted_places (arguments ++ result_symbols s exit) exit.places =
-    c.in-Ok.ensures.0
+    let places : c.in_ok-places.places.items ≡ substituted_places (arguments ++ result_symbols s exit) exit.places =
+    c.in_ok-places.ensures.0
     ∙ (λ i. substituted_places (made_first i) ((c.as_slice-2.ensures.value ∙ ap (λ (e : FramedExit). e.places) c.exit.view_is) i)) in
     let ranges = c.in-Some.ensures.0 in
     let all_guards : c.joined.result.items ≡ s.guards ++ map (substituted (arguments ++ result_symbols s exit)) exit.guards =
@@ -113,7 +116,7 @@ returns c =
         cost = cost i;
       },
       has_room s arguments below exit c.in-Some.ensures.1 few,
-      small_after s arguments below exit guards_small (subst AllSmallPlaces places c.in-Ok.ensures.1) (subst AllSmallForms guards c.in-Ok-guards_with.ensures.1),
+      small_after s arguments below exit guards_small (subst AllSmallPlaces places c.in_ok-places.ensures.1) (subst AllSmallForms guards c.in_ok-guards.ensures.1),
     )
 
 -- What the calls ask for
@@ -182,8 +185,8 @@ returns-then-len-gt-MOST_STATE_GUARDS c =
       c.plain-then-len-gt-MOST_STATE_GUARDS.ensures,
     )
 
-pub returns-in_default-places_with : goal.returns-in_default-places_with
-returns-in_default-places_with c =
+pub returns-in_err-places : goal.returns-in_err-places
+returns-in_err-places c =
     let s = c.args.self.now in
     let exit = c.args.exit.now in
     let arguments = c.args.arguments.now in
@@ -200,9 +203,11 @@ returns-in_default-places_with c =
       c.len.ensures.value ∙ ap guards_in c.self.view_is,
       c.len-2.ensures.value ∙ ap (λ (guards : List Form). length guards) (ap exit_guards c.exit.view_is),
     ) in
-    inr (
+    let p = err_from_is_err_and c.from_residual.result c.from_residual.ensures.1 in
+    rw p.1
+    (inr (
       has_room s arguments below exit c.in-Some.ensures.1 few,
       large_places s arguments below exit
-          (λ small. c.in_default-places_with.ensures (subst AllSmallPlaces (λ i. substituted_places (sym made i) (sym places i)) small)),
-      c.plain-in_default-places_with.ensures,
-    )
+          (λ small. c.in_err-places.ensures (subst AllSmallPlaces (λ i. substituted_places (sym made i) (sym places i)) small)),
+      p.2,
+    ))

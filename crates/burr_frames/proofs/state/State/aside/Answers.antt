@@ -1,5 +1,5 @@
 -- A piece off the bench or in another's way, a step that can't be paid for, and one that is made.
-use Rattle.std.proofs.Common.{◌≡◌, ◌∙◌, ap, inr}
+use Rattle.std.proofs.Common.{◌≡◌, ◌∙◌, ap, inl, inr}
 use Rattle.std.proofs.lemmas.Result.{err_from_is_err_and}
 use Rattle.burr_text.proofs.Common.Tests.{yes_of, no_of}
 use Rattle.burr_code.specs.Places.{aside_places}
@@ -15,6 +15,13 @@ use Rattle.burr_frames.proofs.MoveVerdicts.{clear_on, clear_breaks}
 use Rattle.burr_frames.proofs.Paying.{paying_on, paying_breaks}
 use Rattle.burr_frames.proofs.state.State.aside.Goals as goal
 
+pub returns-then-not-is_empty_tray-clause-verdict : goal.returns-then-not-is_empty_tray-clause-verdict
+returns-then-not-is_empty_tray-clause-verdict g c =
+    inr (
+      rw (c.grip.ensures, c.places.ensures.places, c.tray.ensures) at (yes_of c.if-not-is_part_of_tray.ensures),
+      inl (rw c.places-2.ensures.places at (no_of c.if-not-is_empty_tray.ensures), ap Breaks c.plain-then-not-is_empty_tray.ensures),
+    )
+
 pub returns-in_err-goes_clear-clause-verdict : goal.returns-in_err-goes_clear-clause-verdict
 returns-in_err-goes_clear-clause-verdict g c =
     let s = c.args.self.now in
@@ -24,9 +31,9 @@ returns-in_err-goes_clear-clause-verdict g c =
     let p = err_from_is_err_and c.from_residual.result c.from_residual.ensures.1 in
     rw (p.1, p.2)
     (inr (
-      yes_of c.if-not-is_part_gripped.ensures,
+      rw (c.grip.ensures, c.places.ensures.places, c.tray.ensures) at (yes_of c.if-not-is_part_of_tray.ensures),
       inr (
-        yes_of c.if-not-is_empty.ensures,
+        rw c.places-2.ensures.places at (yes_of c.if-not-is_empty_tray.ensures),
         clear_breaks s (OnBenchAt s.places s.tray) (PairAt (GoesFree c.args.direction) homes s.places s.tray s.grip) rules.OffBench rules.NotFree
             (paying s λ paid. falls_through (with_grip 0 (with_places new paid))) (broken_of broken)
             c.in_err-goes_clear.ensures.verdict,
@@ -42,9 +49,9 @@ returns-in_err-cost-clause-verdict g c =
     let p = err_from_is_err_and c.from_residual-in_err-cost.result c.from_residual-in_err-cost.ensures.1 in
     rw (p.1, p.2)
     (inr (
-      yes_of c.if-not-is_part_gripped.ensures,
+      rw (c.grip.ensures, c.places.ensures.places, c.tray.ensures) at (yes_of c.if-not-is_part_of_tray.ensures),
       inr (
-        yes_of c.if-not-is_empty.ensures,
+        rw c.places-2.ensures.places at (yes_of c.if-not-is_empty_tray.ensures),
         clear_on s (OnBenchAt s.places s.tray) (PairAt (GoesFree c.args.direction) homes s.places s.tray s.grip) rules.OffBench rules.NotFree
             (paying s λ paid. falls_through (with_grip 0 (with_places new paid))) (Breaks (broken_of broken))
             c.in_ok-goes_clear.ensures.verdict
@@ -62,9 +69,9 @@ returns-clause-verdict g c =
     c.go_aside.ensures
     ∙ ap (λ (a : AbstractState). with_grip 0 (with_places (aside_places a.grip a.tray c.args.tray a.places) a)) c.set_cost.ensures in
     inr (
-      yes_of c.if-not-is_part_gripped.ensures,
+      rw (c.grip.ensures, c.places.ensures.places, c.tray.ensures) at (yes_of c.if-not-is_part_of_tray.ensures),
       inr (
-        yes_of c.if-not-is_empty.ensures,
+        rw c.places-2.ensures.places at (yes_of c.if-not-is_empty_tray.ensures),
         clear_on s (OnBenchAt s.places s.tray) (PairAt (GoesFree c.args.direction) homes s.places s.tray s.grip) rules.OffBench rules.NotFree
             (paying s λ paid. falls_through (with_grip 0 (with_places new paid))) (FallsThrough c.go_aside.new.self)
             c.in_ok-goes_clear.ensures.verdict
@@ -72,30 +79,30 @@ returns-clause-verdict g c =
       ),
     )
 
-pub returns-then-not-is_part_gripped-clause-counted : goal.returns-then-not-is_part_gripped-clause-counted
-returns-then-not-is_part_gripped-clause-counted g c =
+pub returns-then-not-is_part_of_tray-clause-counted : goal.returns-then-not-is_part_of_tray-clause-counted
+returns-then-not-is_part_of_tray-clause-counted g c =
     aside_looks_whole (homes_of c.args.looks.now.assembly) c.args.self.now c.args.direction c.args.tray c.args.looks.now
-    (no_of c.if-not-is_part_gripped.ensures)
+    (rw (c.grip.ensures, c.places.ensures.places, c.tray.ensures) at (no_of c.if-not-is_part_of_tray.ensures))
 
-pub returns-then-not-is_empty-clause-counted : goal.returns-then-not-is_empty-clause-counted
-returns-then-not-is_empty-clause-counted g c =
+pub returns-then-not-is_empty_tray-clause-counted : goal.returns-then-not-is_empty_tray-clause-counted
+returns-then-not-is_empty_tray-clause-counted g c =
     aside_looks_in_use (homes_of c.args.looks.now.assembly) c.args.self.now c.args.direction c.args.tray c.args.looks.now
-    (yes_of c.if-not-is_part_gripped.ensures) (no_of c.if-not-is_empty.ensures)
+    (rw (c.grip.ensures, c.places.ensures.places, c.tray.ensures) at (yes_of c.if-not-is_part_of_tray.ensures)) (rw c.places-2.ensures.places at (no_of c.if-not-is_empty_tray.ensures))
 
 pub returns-in_err-goes_clear-clause-counted : goal.returns-in_err-goes_clear-clause-counted
 returns-in_err-goes_clear-clause-counted g c =
     aside_looks_on (homes_of c.args.looks.now.assembly) c.args.self.now c.args.direction c.args.tray c.args.looks.now
-    c.goes_clear.new.looks (yes_of c.if-not-is_part_gripped.ensures) (yes_of c.if-not-is_empty.ensures)
+    c.goes_clear.new.looks (rw (c.grip.ensures, c.places.ensures.places, c.tray.ensures) at (yes_of c.if-not-is_part_of_tray.ensures)) (rw c.places-2.ensures.places at (yes_of c.if-not-is_empty_tray.ensures))
     c.in_err-goes_clear.ensures.counted
 
 pub returns-in_err-cost-clause-counted : goal.returns-in_err-cost-clause-counted
 returns-in_err-cost-clause-counted g c =
     aside_looks_on (homes_of c.args.looks.now.assembly) c.args.self.now c.args.direction c.args.tray c.args.looks.now
-    c.goes_clear.new.looks (yes_of c.if-not-is_part_gripped.ensures) (yes_of c.if-not-is_empty.ensures)
+    c.goes_clear.new.looks (rw (c.grip.ensures, c.places.ensures.places, c.tray.ensures) at (yes_of c.if-not-is_part_of_tray.ensures)) (rw c.places-2.ensures.places at (yes_of c.if-not-is_empty_tray.ensures))
     c.in_ok-goes_clear.ensures.counted
 
 pub returns-clause-counted : goal.returns-clause-counted
 returns-clause-counted g c =
     aside_looks_on (homes_of c.args.looks.now.assembly) c.args.self.now c.args.direction c.args.tray c.args.looks.now
-    c.goes_clear.new.looks (yes_of c.if-not-is_part_gripped.ensures) (yes_of c.if-not-is_empty.ensures)
+    c.goes_clear.new.looks (rw (c.grip.ensures, c.places.ensures.places, c.tray.ensures) at (yes_of c.if-not-is_part_of_tray.ensures)) (rw c.places-2.ensures.places at (yes_of c.if-not-is_empty_tray.ensures))
     c.in_ok-goes_clear.ensures.counted

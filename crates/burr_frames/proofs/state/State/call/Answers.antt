@@ -44,7 +44,7 @@ returns-in_default-frame_at-clause-verdict c =
     (c.in-Some.ensures.plan p is) c.in-Some.ensures.lent in
     let q = there.procedure in
     let exit = exit_there p.pieces q.parameters q.results c.in-Some-exit.exit q.exit (c.in-Some-exit.ensures p q there.is there.at) in
-    let none = no_entry (framed_procedure q).labels (c.in_default-frame_at.ensures p (framed_procedure q) there.is there.framed) in
+    let none = no_entry (framed_procedure q).labels (c.in_default-frame_at.ensures p (framed_procedure q) there.is there.framed).0 in
     inr (
       framed_procedure q,
       there.called,
@@ -62,9 +62,9 @@ returns-clause-verdict c =
     let q = there.procedure in
     let exit_is = c.in-Some-exit.ensures p q there.is there.at in
     let exit = exit_there p.pieces q.parameters q.results c.in-Some-exit.exit q.exit exit_is in
-    let entry = entry_there (framed_procedure q).labels c.in-Some-frame_at.entry (c.in-Some-frame_at.ensures p (framed_procedure q) there.is there.framed) in
+    let entry = entry_there (framed_procedure q).labels c.in-Ok.entry (c.in-Ok.ensures p (framed_procedure q) there.is there.framed) in
     let kept = framed_ref c.in-Some-exit.exit in
-    let first = framed (frame_of c.in-Some-frame_at.entry) in
+    let first = framed (frame_of c.in-Ok.entry) in
     let many : length kept.results ≡ q.results = ranges_there p.pieces q.parameters q.results c.in-Some-exit.exit q.exit exit_is in
     let called : calling s q.parameters q.results first kept v =
     subst (λ (n : ℕ). calling s n q.results first kept v) (c.params.ensures.plan p q there.is there.at)

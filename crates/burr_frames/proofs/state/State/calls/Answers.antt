@@ -30,7 +30,7 @@ returns-in-Err-clause-verdict c =
     let room = still_room count _ s.operands _ _ _ (ap operands_of c.self.view_is) c.len.ensures.value (c.len-2.ensures.value ∙ ap results_of c.exit.view_is)
     c.if-len-count-gt-MOST_OPERANDS.false in
     let missed = rw c.as_slice.ensures.value at c.in-Err.ensures in
-    rw (← c.from-count.ensures, c.missed.ensures)
+    rw (← c.from-count.ensures, c.at.ensures)
     (calling_on s count entry exit arguments _ room c.in-Some.ensures.operands.1 c.in-Some.ensures.operands.0
     (meeting_breaks _ entry rules.EntryMissed (λ live. PaysCall s arguments exit (substituted live entry.cost)) _ missed))
 

@@ -12,15 +12,18 @@ use Rattle.burr_frames.proofs.Arrivals.{arriving_on, arriving_breaks}
 use Rattle.burr_frames.proofs.Counters.{branches, paid_for, lowering_breaks, lowering_on, lowered_state, lowered_room, counting_on, counting_breaks}
 use Rattle.burr_frames.proofs.state.State.down.Goals as goal
 
-pub returns-in_default-clause-verdict : goal.returns-in_default-clause-verdict
-returns-in_default-clause-verdict c = λ p here is e. inl (c.in_default.ensures p here is e, ap Breaks c.plain.ensures)
+pub returns-in_err-frame-clause-verdict : goal.returns-in_err-frame-clause-verdict
+returns-in_err-frame-clause-verdict c = λ p here is e.
+    let none = c.in_err-frame.ensures p here is e in
+    let r = err_from_is_err_and c.from_residual.result c.from_residual.ensures.1 in
+    rw (r.1, r.2) (inl (none.0, ap Breaks none.1))
 
 pub returns-in_err-count-clause-verdict : goal.returns-in_err-count-clause-verdict
 returns-in_err-count-clause-verdict c = λ p here is e.
-    let found = c.in-Some.ensures p here is e in
-    let r = err_from_is_err_and c.from_residual.result c.from_residual.ensures.1 in
+    let found = c.in_ok-frame.ensures p here is e in
+    let r = err_from_is_err_and c.from_residual-in_err-count.result c.from_residual-in_err-count.ensures.1 in
     rw (r.1, r.2)
-    (counting_breaks here c.args.self.now c.args.v c.args.label found.0 (framed (frame_of c.in-Some.frame))
+    (counting_breaks here c.args.self.now c.args.v c.args.label found.0 (framed (frame_of c.in_ok-frame.frame))
     c.in_err-count.field-0.0 (branches c.args.v) found.1 (c.in_err-count.ensures.counter p here is e))
 
 pub returns-in_err-branch-clause-verdict : goal.returns-in_err-branch-clause-verdict
@@ -28,8 +31,8 @@ returns-in_err-branch-clause-verdict c = λ p here is e.
     let s = c.args.self.now in
     let v = c.args.v in
     let count = c.in_ok-count.count in
-    let to = framed (frame_of c.in-Some.frame) in
-    let found = c.in-Some.ensures p here is e in
+    let to = framed (frame_of c.in_ok-frame.frame) in
+    let found = c.in_ok-frame.ensures p here is e in
     let broken = broken_of c.in_err-branch.field-0.0 in
     let r = err_from_is_err_and c.from_residual-in_err-branch.result c.from_residual-in_err-branch.ensures.1 in
     rw (r.1, r.2)
@@ -44,8 +47,8 @@ returns-in_err-arrives_or_breaks-clause-verdict c = λ p here is e.
     let v = c.args.v in
     let count = c.in_ok-count.count in
     let branch = c.in_ok-branch.branch in
-    let to = framed (frame_of c.in-Some.frame) in
-    let found = c.in-Some.ensures p here is e in
+    let to = framed (frame_of c.in_ok-frame.frame) in
+    let found = c.in_ok-frame.ensures p here is e in
     let lowered = lowered_state s count (counted_down v count) branch c.in_ok-branch.ensures in
     let broken = broken_of c.in_err-arrives_or_breaks.field-0.0 in
     let misses = subst (λ (a : AbstractState). arriving a to no_successor (Breaks broken)) lowered c.in_err-arrives_or_breaks.ensures in
@@ -62,8 +65,8 @@ returns-clause-verdict c = λ p here is e.
     let v = c.args.v in
     let count = c.in_ok-count.count in
     let branch = c.in_ok-branch.branch in
-    let to = framed (frame_of c.in-Some.frame) in
-    let found = c.in-Some.ensures p here is e in
+    let to = framed (frame_of c.in_ok-frame.frame) in
+    let found = c.in_ok-frame.ensures p here is e in
     let lowered = lowered_state s count (counted_down v count) branch c.in_ok-branch.ensures in
     let cost = ap (λ (a : AbstractState). a.cost) (c.branch.view_is ∙ lowered) in
     let arrives = subst (λ (a : AbstractState). arriving a to no_successor NoSuccessor) lowered c.in_ok-arrives_or_breaks.ensures in

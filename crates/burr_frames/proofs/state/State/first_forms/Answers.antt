@@ -7,20 +7,21 @@ use Rattle.burr_frames.specs.Rules.ControlRules.{first_forms}
 use Rattle.burr_frames.proofs.CallForms.{first_unknown, first_push}
 use Rattle.burr_frames.proofs.state.State.first_forms.Goals as goal
 
-pub returns-in_default : goal.returns-in_default
-returns-in_default c =
-    first_unknown c.loop-v.v c.args.count c.args.self.now.slots c.loop-v-test.true c.in_default.ensures.slot
+pub returns-in_err-slot : goal.returns-in_err-slot
+returns-in_err-slot c =
+    rw c.from_residual.ensures
+    (first_unknown c.loop-v.v c.args.count c.args.self.now.slots c.loop-v-test.true c.in_err-slot.ensures.slot)
 
 pub loop-v-preserved : goal.loop-v-preserved
 loop-v-preserved c =
     let before = c.loop-v.forms.items in
-    let form = c.in-Some.form in
+    let form = c.in_ok-slot.field-0 in
     let items : c.push.new.self.items ≡ before ++ form ∷ [] = c.push.ensures.items in
     let old = c.loop-v.invariant in
     record {
-      is = first_push c.loop-v.v c.args.self.now.slots before form old.is c.in-Some.ensures.slot ∙ ap (λ (fs : List Form). Some fs) (sym items);
+      is = first_push c.loop-v.v c.args.self.now.slots before form old.is c.in_ok-slot.ensures.slot ∙ ap (λ (fs : List Form). Some fs) (sym items);
       many = ap (length {A = Form}) items ∙ length_push before form ∙ ap (λ n. n + 1) old.many;
-      small = subst AllSmallForms (sym items) (All-push IsSmallForm before form old.small c.in-Some.ensures.small.1);
+      small = subst AllSmallForms (sym items) (All-push IsSmallForm before form old.small c.in_ok-slot.ensures.small.1);
     }
 
 pub returns : goal.returns

@@ -12,16 +12,16 @@ returns-then-number-ne0 c = inl (λ main. c.if-number-ne0.true (c.number.ensures
 pub returns-then-not-are_all_apart : goal.returns-then-not-are_all_apart
 returns-then-not-are_all_apart c =
     let main : c.args.procedure.number ≡ 0 = sym c.number.ensures.number ∙ c.if-number-ne0.false in
-    inr (main, inl (no_of c.if-not-are_all_apart.ensures, ap Breaks c.plain-then-not-are_all_apart.ensures))
+    inr (main, inl ((rw c.places.ensures.places at (no_of c.if-not-are_all_apart.ensures)), ap Breaks c.plain-then-not-are_all_apart.ensures))
 
 pub returns-in_err-paid : goal.returns-in_err-paid
 returns-in_err-paid c =
     let main : c.args.procedure.number ≡ 0 = sym c.number.ensures.number ∙ c.if-number-ne0.false in
     let r = err_from_is_err_and c.from_residual.result c.from_residual.ensures.1 in
     rw (r.1, r.2)
-    (inr (main, inr (yes_of c.if-not-are_all_apart.ensures, paying_breaks c.args.self.now c.in_err-paid.field-0.0 (λ paid. no_successor) c.in_err-paid.ensures)))
+    (inr (main, inr (rw c.places.ensures.places at (yes_of c.if-not-are_all_apart.ensures), paying_breaks c.args.self.now c.in_err-paid.field-0.0 (λ paid. no_successor) c.in_err-paid.ensures)))
 
 pub returns : goal.returns
 returns c =
     let main : c.args.procedure.number ≡ 0 = sym c.number.ensures.number ∙ c.if-number-ne0.false in
-    inr (main, inr (yes_of c.if-not-are_all_apart.ensures, paying_on c.args.self.now c.in_ok-paid.field-0 (λ paid. no_successor) NoSuccessor c.in_ok-paid.ensures refl))
+    inr (main, inr (rw c.places.ensures.places at (yes_of c.if-not-are_all_apart.ensures), paying_on c.args.self.now c.in_ok-paid.field-0 (λ paid. no_successor) NoSuccessor c.in_ok-paid.ensures refl))

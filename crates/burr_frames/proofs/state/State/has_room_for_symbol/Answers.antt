@@ -11,8 +11,8 @@ has_at_most-requires-clause-ranges c =
     let old = c.self.inside.ranges.items in
     let put = handed_range c.args.low c.args.high c.from.result c.from-2.result c.requires c.from.ensures c.from-2.ensures in
     let ranges : c.push.new.self.items ≡ old ++ (c.args.low, c.args.high) ∷ [] =
-    c.push.ensures.items ∙ (λ i. c.copied-ranges.ensures i ++ put i ∷ []) in
-    subst AreRanges (sym (c.as_slice.ensures.value ∙ ranges)) (one_range_more old c.args.low c.args.high c.self.invariant.ranges c.requires)
+    c.push.ensures.items ∙ (λ i. (c.copied-ranges.ensures ∙ c.as_slice.ensures.value) i ++ put i ∷ []) in
+    subst AreRanges (sym (c.as_slice-2.ensures.value ∙ ranges)) (one_range_more old c.args.low c.args.high c.self.invariant.ranges c.requires)
 
 pub returns : goal.returns
 returns c =
@@ -21,9 +21,9 @@ returns c =
     let range : Range = (c.args.low, c.args.high) in
     let put = handed_range c.args.low c.args.high c.from.result c.from-2.result c.requires c.from.ensures c.from-2.ensures in
     let same : old ≡ s.ranges = ap (λ (a : AbstractState). a.ranges) c.self.view_is in
-    let now : c.as_slice.result.now ≡ s.ranges ++ range ∷ [] =
-    c.as_slice.ensures.value ∙ c.push.ensures.items ∙ (λ i. (c.copied-ranges.ensures ∙ same) i ++ put i ∷ []) in
-    let few : length (s.ranges ++ range ∷ []) ≤ 8 = omega (arith, c.as_slice.ensures.fits, ap (length {A = Range}) now) in (
+    let now : c.as_slice-2.result.now ≡ s.ranges ++ range ∷ [] =
+    c.as_slice-2.ensures.value ∙ c.push.ensures.items ∙ (λ i. (c.copied-ranges.ensures ∙ c.as_slice.ensures.value ∙ same) i ++ put i ∷ []) in
+    let few : length (s.ranges ++ range ∷ []) ≤ 8 = omega (arith, c.as_slice-2.ensures.fits, ap (length {A = Range}) now) in (
       λ room. (few, c.guards_are_few.ensures, subst (λ (ranges : List Range). box_size ranges ≤ 4096) now (c.has_at_most.ensures.0 room)),
       λ room. c.has_at_most.ensures.1 (subst (λ (ranges : List Range). box_size ranges ≤ 4096) (sym now) room.2),
     )

@@ -10,14 +10,17 @@ use Rattle.burr_frames.specs.Views.Changes.{at_cost}
 use Rattle.burr_frames.proofs.Paying.{paying_on, paying_breaks}
 use Rattle.burr_frames.proofs.state.State.jump.Goals as goal
 
-pub returns-in_default : goal.returns-in_default
-returns-in_default c = λ p here is e. inl (c.in_default.ensures p here is e, ap Breaks c.plain.ensures)
+pub returns-in_err-frame : goal.returns-in_err-frame
+returns-in_err-frame c = λ p here is e.
+    let none = c.in_err-frame.ensures p here is e in
+    let r = err_from_is_err_and c.from_residual.result c.from_residual.ensures.1 in
+    rw (r.1, r.2) (inl (none.0, ap Breaks none.1))
 
 pub returns-in_err-cost : goal.returns-in_err-cost
 returns-in_err-cost c = λ p here is e.
-    let to = framed (frame_of c.in-Some.frame) in
-    let found = c.in-Some.ensures p here is e in
-    let r = err_from_is_err_and c.from_residual.result c.from_residual.ensures.1 in
+    let to = framed (frame_of c.in_ok-frame.frame) in
+    let found = c.in_ok-frame.ensures p here is e in
+    let r = err_from_is_err_and c.from_residual-in_err-cost.result c.from_residual-in_err-cost.ensures.1 in
     rw (r.1, r.2)
     (inr (
       (found.0, to),
@@ -29,8 +32,8 @@ pub returns : goal.returns
 returns c = λ p here is e.
     let s = c.args.self.now in
     let cost = c.in_ok-cost.cost in
-    let to = framed (frame_of c.in-Some.frame) in
-    let found = c.in-Some.ensures p here is e in
+    let to = framed (frame_of c.in_ok-frame.frame) in
+    let found = c.in_ok-frame.ensures p here is e in
     let verdict = last_verdict c.arrives_or_breaks.result in
     let paid : c.set_cost.new.self ≡ at_cost cost s = c.set_cost.ensures ∙ ap (at_cost cost) c.copied-paid.ensures in
     inr (

@@ -53,7 +53,7 @@ returns-in-Err c = λ here there parameters results.
     let known = rw (c.parameters.ensures.count ∙ sym parameters) at c.in-Some.ensures.0 in
     let many = c.len.ensures.value ∙ ap results_of (c.exit.view_is ∙ c.of-exit.ensures.exit) ∙ sym results in
     let enough = rw many at c.in-Some-top_many.ensures.operands.0 in
-    let met = rw (c.of-exit.ensures.exit, c.as_slice.ensures.value, c.as_slice-2.ensures.value, ← c.missed.ensures) at c.in-Err.ensures in
-    ret_on here c.args.self.now _ _ _ _ (Breaks (broken_of c.missed.result)) there known enough
+    let met = rw (c.of-exit.ensures.exit, c.as_slice.ensures.value, c.as_slice-2.ensures.value, ← c.at.ensures) at c.in-Err.ensures in
+    ret_on here c.args.self.now _ _ _ _ (Breaks (broken_of c.at.result)) there known enough
     (paying_on c.args.self.now c.in_ok-paid.field-0 (λ paid. meeting_exit_with c.args.self.now (framed_ref c.args.exit.now) c.in-Some.parameters.items c.in-Some-top_many.results.items)
-    (Breaks (broken_of c.missed.result)) c.in_ok-paid.ensures met)
+    (Breaks (broken_of c.at.result)) c.in_ok-paid.ensures met)

@@ -3,7 +3,7 @@ use Rattle.std.proofs.Common.{rules, refl, ◌≡◌, ◌≢◌, ◌∙◌, List
 use Rattle.std.specs.Prelude.{⊤, ◌⊎◌, pos}
 use Rattle.std.specs.Result.{result_and}
 use Rattle.std.proofs.lemmas.Result.{IfErr-at_err}
-use Rattle.burr_text.proofs.Common.Tests.{yes_of}
+use Rattle.burr_text.proofs.Common.Tests.{yes_of, no_of}
 use Rattle.burr_code.specs.declared.placement.Placement.{Placement}
 use Rattle.burr_assembly.specs.Rules.Homes.{homes_of}
 use Rattle.burr_blocking.specs.declared.blocking.Query.TheVariants as queries
@@ -19,7 +19,7 @@ use Rattle.burr_frames.specs.Rules.Looks.{clearing_looks}
 use Rattle.burr_frames.specs.Rules.SpaceRules.{OnBenchAt, PairAt, DoesNotOverlap, moved, AllSmallPlaces}
 use Rattle.burr_frames.specs.Rules.States.{AbstractState}
 use Rattle.burr_frames.specs.Rules.Verdicts.{Breaks, FallsThrough, falls_through, paying}
-use Rattle.burr_frames.proofs.GripLooks.{step_looks_on}
+use Rattle.burr_frames.proofs.GripLooks.{step_looks_on, step_looks_large}
 use Rattle.burr_frames.proofs.MoveVerdicts.{clear_on, clear_breaks}
 use Rattle.burr_frames.proofs.Paying.{paying_on, paying_breaks}
 use Rattle.burr_frames.proofs.ShiftedPlaces.{moved_back}
@@ -69,7 +69,7 @@ returns-in-Ok-clause-verdict g c =
     inr (
       some,
       inr (
-        yes_of c.if-not-can_shift.ensures,
+        rw (c.places.ensures.places, c.grip.ensures) at (yes_of c.if-not-can_shift_group.ensures),
         clear_on s (OnBenchAt new s.tray) (PairAt DoesNotOverlap homes new s.tray s.grip) rules_of.OffBench rules_of.Collision
             (paying s λ paid. falls_through (with_places new paid)) (FallsThrough c.set_cost.new.self)
             (subst (ClearOrBreaks homes s new queries.Overlap rules_of.Collision) both.0 clear)
@@ -92,7 +92,7 @@ returns-in-Err-clause-verdict g c =
     inr (
       some,
       inr (
-        yes_of c.if-not-can_shift.ensures,
+        rw (c.places.ensures.places, c.grip.ensures) at (yes_of c.if-not-can_shift_group.ensures),
         elim (first_err c.goes_clear-clear.result c.paid.result broken (sym c.and.ensures ∙ c.in-Err.is)) [
           | inl unclear ↦
               clear_breaks s (OnBenchAt new s.tray) (PairAt DoesNotOverlap homes new s.tray s.grip) rules_of.OffBench rules_of.Collision rest
@@ -105,11 +105,17 @@ returns-in-Err-clause-verdict g c =
       ),
     )
 
+pub returns-then-not-can_shift_group-clause-counted : goal.returns-then-not-can_shift_group-clause-counted
+returns-then-not-can_shift_group-clause-counted g c =
+    let some : c.args.self.now.grip ≢ 0 = search rules in
+    step_looks_large (homes_of c.args.looks.now.assembly) c.args.self.now c.args.direction c.args.looks.now some
+    (rw (c.places.ensures.places, c.grip.ensures) at (no_of c.if-not-can_shift_group.ensures))
+
 pub returns-in-Ok-clause-counted : goal.returns-in-Ok-clause-counted
 returns-in-Ok-clause-counted g c =
     let homes = homes_of c.args.looks.now.assembly in
     let some : c.args.self.now.grip ≢ 0 = search rules in
-    step_looks_on homes c.args.self.now c.args.direction c.args.looks.now c.goes_clear-clear.new.looks some (yes_of c.if-not-can_shift.ensures)
+    step_looks_on homes c.args.self.now c.args.direction c.args.looks.now c.goes_clear-clear.new.looks some (rw (c.places.ensures.places, c.grip.ensures) at (yes_of c.if-not-can_shift_group.ensures))
     (subst (λ (a : AbstractState). HasCounted (clearing_looks homes a a.places queries.Overlap) c.args.looks.now c.goes_clear-clear.new.looks)
     c.shift.ensures c.goes_clear-clear.ensures.counted)
 
@@ -117,6 +123,6 @@ pub returns-in-Err-clause-counted : goal.returns-in-Err-clause-counted
 returns-in-Err-clause-counted g c =
     let homes = homes_of c.args.looks.now.assembly in
     let some : c.args.self.now.grip ≢ 0 = search rules in
-    step_looks_on homes c.args.self.now c.args.direction c.args.looks.now c.goes_clear-clear.new.looks some (yes_of c.if-not-can_shift.ensures)
+    step_looks_on homes c.args.self.now c.args.direction c.args.looks.now c.goes_clear-clear.new.looks some (rw (c.places.ensures.places, c.grip.ensures) at (yes_of c.if-not-can_shift_group.ensures))
     (subst (λ (a : AbstractState). HasCounted (clearing_looks homes a a.places queries.Overlap) c.args.looks.now c.goes_clear-clear.new.looks)
     c.shift.ensures c.goes_clear-clear.ensures.counted)

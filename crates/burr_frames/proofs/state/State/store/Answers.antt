@@ -7,8 +7,8 @@ pub returns-then-v-params-clause-verdict : goal.returns-then-v-params-clause-ver
 returns-then-v-params-clause-verdict c = λ p here is at.
     let few : here.parameters ≡ c.params.result = parameters_read c.args.procedure c.params.result c.params.ensures.plan p here is at in search rules
 
-pub returns-in_default-clause-verdict : goal.returns-in_default-clause-verdict
-returns-in_default-clause-verdict c = λ p here is at.
+pub returns-in_err-form-clause-verdict : goal.returns-in_err-form-clause-verdict
+returns-in_err-form-clause-verdict c = λ p here is at.
     let few : here.parameters ≡ c.params.result = parameters_read c.args.procedure c.params.result c.params.ensures.plan p here is at in search rules
 
 pub returns-in_err-cost-clause-verdict : goal.returns-in_err-cost-clause-verdict

@@ -17,11 +17,11 @@ returns-clause-operands c =
     let some : count ≤ length items = search rules in
     let first : c.in_ok-first.first ≡ length items - count = search rules in
     let deref : c.deref.result.now ≡ items = c.deref.ensures.0 in
-    let taken : c.taken.result.items ≡ drop (length items - count) items =
-    c.taken.ensures ∙ take_rest c.deref.result.now c.in_ok-first.first
+    let taken : c.copied.result.items ≡ drop (length items - count) items =
+    c.copied.ensures ∙ take_rest c.deref.result.now c.in_ok-first.first
     ∙ ap (λ (xs : List Form). drop c.in_ok-first.first xs) deref ∙ ap (λ n. drop n items) first in
     let same : reverse items ≡ c.args.self.now.operands = ap (λ (s : AbstractState). s.operands) c.self.view_is in (
-      subst (λ (xs : List Form). top_many count xs ≡ Some (reverse c.taken.result.items, drop count xs)) same
+      subst (λ (xs : List Form). top_many count xs ≡ Some (reverse c.copied.result.items, drop count xs)) same
           (top_many_of count items some
           ∙ ap (λ (xs : List Form). Some (xs, drop count (reverse items))) (take_reverse count items ∙ ap (λ (xs : List Form). reverse xs) (sym taken))),
       ap (length {A = Form}) taken ∙ length-drop (length items - count) items ∙ omega (arith, some),

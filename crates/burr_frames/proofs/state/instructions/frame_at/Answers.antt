@@ -12,7 +12,7 @@ returns-then-label-label_count c = λ p here is e.
     let q = procedure_here p c.args.procedure.number here e in
     let many = as_many_labels q.0 here q.2 in
     let count = c.label_count.ensures.plan p q.0 is q.1 in
-    slice_get_past here.labels c.args.label (omega (arith, many, count, c.if-label-label_count.true, c.from-label.ensures))
+    (slice_get_past here.labels c.args.label (omega (arith, many, count, c.if-label-label_count.true, c.from-label.ensures)), c.plain.ensures)
 
 pub returns : goal.returns
 returns c = λ p here is e.
