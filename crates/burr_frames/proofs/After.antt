@@ -1,7 +1,10 @@
 -- The state after a call: whether there is room for its symbols, and whether its forms are small.
-use Rattle.std.proofs.Common.{◌≡◌, ◌<◌, ◌≤◌, ◌+◌, ◌++◌, ◌∙◌, List, length, map, ap, sym, subst, refl, arith}
-use Rattle.std.proofs.lemmas.List.{length-append, length-map, drop_at}
-use Rattle.std.proofs.lemmas.List.Elements.{All-append, All-drop}
+use Rattle.std.proofs.Common.{◌≡◌, ℕ, ◌<◌, ◌≤◌, ◌+◌, ◌-◌, ◌++◌, ◌∙◌, List, length, take, drop, map, ap, sym, subst, refl, arith}
+use Rattle.std.specs.Prelude.{reverse}
+use Rattle.std.proofs.lemmas.List.{length-append, length-map, drop_at, reverse-append}
+use Rattle.std.proofs.lemmas.List.Elements.{All-append, All-drop, All-take}
+use Rattle.burr_code.proofs.Common.Turned.{drop_reverse}
+use Rattle.burr_frames.proofs.Offsets.{small_reversed}
 use Rattle.burr_forms.specs.Rules.Forms.{Form, IsSmallForm, AllSmallForms, substituted}
 use Rattle.burr_frames.specs.Rules.States.{AbstractState}
 use Rattle.burr_frames.specs.Rules.FramedPlans.{FramedExit}
@@ -13,6 +16,20 @@ use Rattle.burr_frames.specs.Views.CallViews.{AreFewRanges, IsSmallAfter}
 pub small_joined : (first second both given : List Form) → AllSmallForms first → AllSmallForms second → both ≡ first ++ second
     → given ≡ both → AllSmallForms given
 small_joined first second both given small more is same = subst AllSmallForms (sym (same ∙ is)) (All-append IsSmallForm first second small more)
+
+-- the operands that are left, the top last, and results after them
+pub operands_left : (gone : ℕ) (items operands results joined : List Form) → reverse items ≡ operands
+    → joined ≡ take (length items - gone) items ++ results → reverse joined ≡ reverse results ++ drop gone operands
+operands_left gone items operands results joined same is =
+    ap reverse is ∙ reverse-append (take (length items - gone) items) results
+    ∙ ap (λ (xs : List Form). reverse results ++ xs) (sym (drop_reverse gone items) ∙ ap (drop gone) same)
+
+pub small_left : (items lent : List Form) (left : ℕ) (results joined : List Form) → AllSmallForms (reverse items) → lent ≡ items
+    → AllSmallForms results → joined ≡ take left lent ++ results → AllSmallForms joined
+small_left items lent left results joined small same more is =
+    subst AllSmallForms (sym is)
+    (All-append IsSmallForm (take left lent) results
+    (subst (λ (xs : List Form). AllSmallForms (take left xs)) (sym same) (All-take IsSmallForm left items (small_reversed items small))) more)
 
 module _ (s : AbstractState) (arguments below : List Form) (exit : FramedExit) where
   -- the forms of the exit frame's symbols

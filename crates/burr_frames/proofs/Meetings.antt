@@ -1,13 +1,27 @@
 -- Agreement with a frame, or none, and what that says of the verdict.
-use Rattle.std.proofs.Common.{List, [], ◌∷◌, refl, inl, inr}
-use Rattle.std.specs.Prelude.{Option, Some, None}
-use Rattle.burr_forms.specs.Rules.Forms.{Form, Point}
+use Rattle.std.proofs.Common.{◌≡◌, List, [], ◌∷◌, refl, sym, subst, inl, inr}
+use Rattle.std.specs.Prelude.{⊤, Option, Some, None, Result, Ok, Err}
+use Rattle.std.specs.Result.{result_and}
+use Rattle.arrayvec.specs.ArrayVec.{ArrayVec}
+use Rattle.burr_forms.specs.Rules.Forms.{Form, Point, AllSmallForms}
 use Rattle.burr_container.specs.Rules.Plans.{Frame}
 use Rattle.burr_frames.specs.declared.rule.Rule.{Rule}
-use Rattle.burr_frames.specs.Rules.States.{AbstractState}
+use Rattle.burr_frames.specs.declared.state.meeting.Miss.{Miss}
+use Rattle.burr_frames.specs.Rules.States.{AbstractState, region_of, state_of}
+use Rattle.burr_frames.specs.Rules.Arrival.{live_forms, IsAlike}
 use Rattle.burr_frames.specs.Rules.Verdicts.{Rest, Verdict, Breaks, NoSuccessor, meeting, arriving, no_successor}
-use Rattle.burr_frames.specs.Views.ArrivalViews.{AgreesWith, IsMissed, missed_at}
+use Rattle.burr_frames.specs.Views.ArrivalViews.{AgreesAbove, AgreesOrMisses, AgreesWith, HoldsOrMisses, IsMissed, missed_at}
 use Rattle.burr_frames.specs.Views.Breaks.{missed_break}
+
+-- what is judged with the forms in the live slots
+pub agrees_or_misses : (s : AbstractState) (f : Frame) (upper least : List Form) (live : ArrayVec Form) (result : Result ⊤ Miss)
+    → live_forms f.slots s.slots ≡ Some live.items → AllSmallForms live.items → IsAlike s (state_of f)
+    → HoldsOrMisses (region_of s) (AgreesAbove s (state_of f) upper least live.items) result
+    → AgreesOrMisses s f upper least (result_and result (Ok live))
+agrees_or_misses s f upper least live (Ok _) known small alike agrees =
+    (record { known = known; alike = alike; agrees = agrees }, small)
+agrees_or_misses s f upper least live (Err miss) known small alike (point, first, is) =
+    subst (IsMissed s f upper least) (sym is) (live.items, known, alike, first)
 
 -- a frame that is met, and what follows
 pub meeting_on : (s : AbstractState) (f : Frame) (rule : Rule) (rest : List Form → Rest) (forms : List Form) (v : Verdict)

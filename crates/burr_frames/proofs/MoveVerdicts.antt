@@ -18,9 +18,8 @@ use Rattle.burr_frames.specs.declared.clearing.TrayPiece.{TrayPiece}
 use Rattle.burr_frames.specs.Rules.Looks.{pairs_of}
 use Rattle.burr_frames.specs.Views.Clearing.{TrayPair, IsPairClear, FirstPairOf, offsets_in, gripped_pieces, left_pieces}
 use Rattle.burr_frames.specs.Views.Moving.{break_of_pieces}
-use Rattle.burr_frames.specs.Rules.SpaceRules.{IsApartBy}
+use Rattle.burr_frames.specs.Rules.SpaceRules.{IsApartBy, OnBenchAt, PairAt}
 use Rattle.burr_frames.specs.Views.Ranges.{AllInReach}
-use Rattle.burr_frames.specs.Rules.SpaceRules.{OnBenchAt, PairAt}
 use Rattle.burr_frames.specs.Rules.States.{AbstractState, Everywhere, IsFirstFailing, region_of}
 use Rattle.burr_frames.specs.Rules.Verdicts.{Broken, Verdict, Breaks, NoSuccessor, Rest, everywhere, everywhere_of_pairs, no_successor}
 use Rattle.burr_frames.proofs.BenchOffsets.{reach_of_on_bench, on_bench_of_reach}

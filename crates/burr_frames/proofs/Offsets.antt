@@ -2,13 +2,14 @@
 use Rattle.std.proofs.Common.{◌≡◌, ℕ, ◌+◌, ◌<◌, ◌≤◌, List, [], ◌∷◌, ◌++◌, length, take, Bool, true, false, refl, sym, ap, subst, ◌∙◌, arith, slice_index_or}
 use Rattle.std.specs.Prelude.{reverse, filter, if◌then◌else◌}
 use Rattle.std.proofs.lemmas.List.{take_more, reverse-reverse, append-nil}
-use Rattle.std.proofs.lemmas.List.Elements.{filter_more}
+use Rattle.std.proofs.lemmas.List.Elements.{filter_more, All-nil, All-cons}
 use Rattle.std.proofs.lemmas.List.Sorted.{All-permutation, IsPermutation-reverse}
 use Rattle.burr_code.specs.declared.placement.Placement.{Placement}
 use Rattle.burr_code.specs.declared.placement.Placement.TheVariants.{Apart, On}
 use Rattle.burr_code.specs.Places.{is_in}
 use Rattle.burr_forms.specs.Rules.Forms.{Form, IsSmallForm, AllSmallForms}
 use Rattle.burr_container.specs.Rules.Plans.{FormCell}
+use Rattle.burr_frames.specs.Rules.SpaceRules.{AllSmallPlaces}
 use Rattle.burr_frames.specs.Views.Clearing.{offsets_in}
 use Rattle.burr_frames.specs.Views.Comparing.{offset_forms}
 
@@ -29,6 +30,15 @@ offsets_more places p place l e =
 pub three_at_most : (place : Placement FormCell) → length (offset_forms (place ∷ [])) ≤ 3
 three_at_most Apart = omega arith
 three_at_most (On tray c) = omega arith
+
+-- the forms of offsets are small where those of the places are
+pub small_offsets : (places : List (Placement FormCell)) → AllSmallPlaces places → AllSmallForms (offset_forms places)
+small_offsets [] small = All-nil IsSmallForm
+small_offsets (Apart ∷ places) small = small_offsets places small
+small_offsets (On tray c ∷ places) small =
+    All-cons IsSmallForm c.x (c.y ∷ c.z ∷ offset_forms places) small.0
+    (All-cons IsSmallForm c.y (c.z ∷ offset_forms places) small.1
+    (All-cons IsSmallForm c.z (offset_forms places) small.2 (small_offsets places small.3)))
 
 -- forms that are small the other way round are small
 pub small_reversed : (forms : List Form) → AllSmallForms (reverse forms) → AllSmallForms forms

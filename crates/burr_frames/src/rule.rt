@@ -107,7 +107,7 @@ impl Break {
         Break::at(rule, None)
     }
 
-    /// A rule that is broken at a point; where there is none, without regard to points.
+    /// A rule that is broken at a point, or without regard to points.
     pub(crate) fn at(rule: Rule, point: Option<Point>) -> Break
         ensures { broken_of result ≡ missed_break rule (option_map (λ point. point.items) point) }
     {

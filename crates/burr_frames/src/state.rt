@@ -146,10 +146,11 @@ impl State {
     pub fn of(frame: &FrameRef<'_>) -> State
         ensures { result ≡ state_of (framed (frame_of frame.now)) }
     {
+        let (ranges, slots) = symbols(frame);
         State {
-            ranges: ranges(frame),
+            ranges,
             guards: guards(frame),
-            slots: slots(frame),
+            slots,
             operands: operands(frame),
             places: places(frame),
             tray: frame.tray(),
@@ -304,36 +305,23 @@ fn home_places(pieces: u8) -> ArrayVec<Placement<FormOffset>, MOST_PIECES>
     places
 }
 
-/// The ranges of the live slots.
-fn ranges(frame: &FrameRef<'_>) -> ArrayVec<(i32, i32), SLOTS>
-    ensures ranges { result.items ≡ live_ranges (frame_of frame.now).slots }
-    ensures are { AreRanges result.items }
+/// The ranges of the live slots, and of each of these slots its symbol.
+fn symbols(frame: &FrameRef<'_>) -> (ArrayVec<(i32, i32), SLOTS>, [Option<Form>; SLOTS])
+    ensures ranges { result.0.items ≡ live_ranges (frame_of frame.now).slots }
+    ensures are { AreRanges result.0.items }
+    ensures slots { result.1 ≡ numbered 0 (frame_of frame.now).slots }
+    ensures small { All IsSmallSlot result.1 }
 {
     let mut ranges = ArrayVec::new();
+    let mut slots = [None; SLOTS];
     for v in 0..SLOTS as u8 {
         let Some((low, high)) = frame.slot(v) else {
             continue;
         };
+        slots[usize::from(v)] = Some(symbol(ranges.len()));
         ranges.push((i32::from(low), i32::from(high)));
     }
-    ranges
-}
-
-/// Of each live slot its symbol.
-fn slots(frame: &FrameRef<'_>) -> [Option<Form>; SLOTS]
-    ensures slots { result ≡ numbered 0 (frame_of frame.now).slots }
-    ensures small { All IsSmallSlot result }
-{
-    let mut slots = [None; SLOTS];
-    let mut count = 0;
-    for v in 0..SLOTS as u8 {
-        if frame.slot(v).is_none() {
-            continue;
-        }
-        slots[usize::from(v)] = Some(symbol(count));
-        count += 1;
-    }
-    slots
+    (ranges, slots)
 }
 
 /// The form of a symbol.

@@ -28,7 +28,7 @@ break_at rule point = record { rule = rule; pieces = None; point = Some point }
 abbrev pub missed_break : Rule → Option Point → Broken
 missed_break rule point = record { rule = rule; pieces = None; point = point }
 
--- something of this kind is found; or there is none, and the rule is broken
+-- something of this kind is found, or the rule is broken
 abbrev pub FindsOrBreaks : {A : Type 0} → (A → Type 0) → Type 0 → Rule → Result A Break → Type 0
 FindsOrBreaks Found Missing rule result =
     MatchResult result Found (λ b. Missing × (broken_of b ≡ plain_break rule))

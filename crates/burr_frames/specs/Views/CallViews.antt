@@ -36,10 +36,6 @@ CannotPayBeside s callee_cost b =
     × IsFirstFailing s (λ x. pos 0 ≤ℤ value x (left_of s.cost callee_cost)) point
     × (broken_of b ≡ break_at rules.CostTooLow point))
 
-abbrev pub PaysBeside : AbstractState → Form → Result Form Break → Type 0
-PaysBeside s callee_cost result =
-    MatchResult result (IsPaidBeside s callee_cost) (CannotPayBeside s callee_cost)
-
 -- Arguments, parameters and results
 
 -- the topmost `count` operands, the bottom first, all of them small; or there are fewer

@@ -10,7 +10,7 @@ ghost use Rattle.burr_frames.specs.Rules.FramedPlans.{framed, FramedProcedure};
 ghost use Rattle.burr_frames.specs.Views.ArrivalViews.{AgreesOrMisses};
 ghost use Rattle.burr_frames.specs.Views.StateViews.{IsSmallSlot};
 ghost use Rattle.burr_frames.specs.Views.Breaks.{next_verdict, last_verdict};
-ghost use Rattle.burr_frames.specs.Views.CallViews.{PaysBeside, GivesTopmost, GivesAfter, GivesRanges, GivesSubstituted, GivesFirstForms};
+ghost use Rattle.burr_frames.specs.Views.CallViews.{GivesTopmost, GivesAfter, GivesRanges, GivesSubstituted, GivesFirstForms};
 ghost use Rattle.burr_frames.specs.Views.Here.{OfFramedProcedure};
 ghost use Rattle.burr_frames.specs.Rules.SpaceRules.{AllSmallPlaces};
 ghost use Rattle.burr_frames.specs.Views.Exits.{framed_ref};
@@ -119,8 +119,11 @@ impl State {
         ensures kept { IfErr result (λ _. self.new ≡ self.old) }
     {
         let mut after = self.after_call(arguments, exit)?;
-        let cost = self.paid_beside(cost, live)?;
-        after.set_cost(cost);
+        let callee_cost = cost.substitute(&padded(live))?;
+        let less = one_less(&self.cost)?;
+        let left = less.sub(&callee_cost)?;
+        self.never_negative(&left, Rule::CostTooLow)?;
+        after.set_cost(left);
         *self = after;
         Ok(())
     }
@@ -132,21 +135,6 @@ impl State {
     {
         let first = self.operands.len().checked_sub(count)?;
         Some(copied(&self.operands[first..]))
-    }
-
-    /// The cost after one step and a callee's cost, which is a form over these arguments: negative
-    /// at no point.
-    fn paid_beside(&self, cost: &Form, arguments: &[Form]) -> Result<Form, Break>
-        requires small { IsSmallForm cost.now }
-        requires few { length arguments.now ≤ 8 }
-        requires arguments_small { AllSmallForms arguments.now }
-        ensures { PaysBeside self.now (substituted arguments.now cost.now) result }
-    {
-        let callee_cost = cost.substitute(&padded(arguments))?;
-        let less = one_less(&self.cost)?;
-        let left = less.sub(&callee_cost)?;
-        self.never_negative(&left, Rule::CostTooLow)?;
-        Ok(left)
     }
 
     /// The state after a call with these arguments, the topmost operands, by the callee's exit
@@ -177,7 +165,10 @@ impl State {
             ranges,
             guards: joined(self.guards.as_slice(), guards.as_slice()),
             slots: copied_slots(&self.slots),
-            operands: self.operands_after(arguments.len(), results.as_slice()),
+            operands: joined(
+                &self.operands[..self.operands.len() - arguments.len()],
+                results.as_slice(),
+            ),
             places,
             tray: exit.tray,
             grip: exit.grip,
@@ -200,19 +191,6 @@ impl State {
         Some(ranges)
     }
 
-    /// The operands, the top last, with these results in place of the topmost `gone`.
-    fn operands_after(&self, gone: usize, results: &[Form]) -> ArrayVec<Form, MOST_OPERANDS>
-        requires there { gone ≤ length self.now.operands }
-        requires room { length (drop gone self.now.operands) + length results.now ≤ 8 }
-        requires small { AllSmallForms results.now }
-        ensures operands { reverse result.items
-            ≡ reverse results.now ++ drop gone self.now.operands }
-        ensures small { AllSmallForms result.items }
-    {
-        let left = self.operands.len() - gone;
-        joined(&self.operands[..left], results)
-    }
-
     /// `ret`: the topmost operands are the results, and they and the pieces are as the procedure's
     /// exit frame says of its parameters.
     #[inline(never)]
@@ -223,25 +201,15 @@ impl State {
         let Some(exit) = procedure.exit() else {
             return Err(Break::plain(Rule::ExitMissed));
         };
-        self.returns(&exit)
-    }
-
-    /// The same of a procedure with this exit frame.
-    fn returns(&self, exit: &ExitRef<'_>) -> Result<(), Break>
-        ensures { (here : FramedProcedure) → here.exit ≡ Some (framed_ref exit.now)
-            → here.parameters ≡ parameters_of exit.now
-            → here.results ≡ length (framed_ref exit.now).results
-            → ret_rule here self.now (last_verdict result) }
-    {
         let Some(parameters) = self.first_forms(exit.parameters()) else {
             return Err(Break::plain(Rule::ExitMissed));
         };
-        let exit = Exit::of(exit);
-        let Some(results) = self.top_many(exit.results.len()) else {
+        let frame = Exit::of(&exit);
+        let Some(results) = self.top_many(frame.results.len()) else {
             return Err(Break::plain(Rule::MissingOperand));
         };
         self.paid()?;
-        match self.meets_exit_with(&exit, parameters.as_slice(), results.as_slice()) {
+        match self.meets_exit_with(&frame, parameters.as_slice(), results.as_slice()) {
             Ok(()) => Ok(()),
             Err(miss) => Err(Break::at(Rule::ExitMissed, miss.point)),
         }
@@ -352,8 +320,6 @@ pub(super) fn padded(forms: &[Form]) -> [Form; SLOTS]
     }
     padded
 }
-
-// The exit frame of a procedure.
 
 /// What holds where a procedure returns. Its forms are over the parameters and, after them, the
 /// results; their numbers lie within ±2^40.

@@ -122,8 +122,7 @@ impl State {
             least,
             same: theirs.as_slice(),
         };
-        agreement.holds_in(&self.region())?;
-        Ok(live)
+        agreement.holds_in(&self.region()).and(Ok(live))
     }
 
     /// The forms in the slots that are live in a frame; None where one of them is not known.
@@ -193,8 +192,6 @@ impl State {
         agreement.holds_in(&self.region())
     }
 }
-
-// Values of a state's forms beside those of the forms of a frame or an exit frame.
 
 /// The condition that values of a state's forms meet a target, which is given by forms over the
 /// symbols whose values come first.
@@ -299,24 +296,14 @@ fn are_substituted(forms: &[Form], others: &[Form], arguments: &[Form; SLOTS]) -
     ensures { IsTrue result ↔ (map (substituted arguments.now) others.now ≡ forms.now) }
 {
     for place in 0..forms.len() {
-        if !is_substituted(&forms[place], &others[place], arguments) {
+        let Ok(found) = others[place].substitute(arguments) else {
+            return false;
+        };
+        if found != forms[place] {
             return false;
         }
     }
     true
-}
-
-/// Whether a form is another one with arguments in place of its symbols.
-fn is_substituted(form: &Form, other: &Form, arguments: &[Form; SLOTS]) -> bool
-    requires small { IsSmallForm form.now }
-    requires other_small { IsSmallForm other.now }
-    requires arguments_small { AllSmallForms arguments.now }
-    ensures { IsTrue result ↔ (substituted arguments.now other.now ≡ form.now) }
-{
-    match other.substitute(arguments) {
-        Ok(found) => found == *form,
-        Err(_) => false,
-    }
 }
 
 /// Whether each of these numbers lies in its range.
@@ -413,31 +400,17 @@ fn compared(
     ensures small { AllSmallForms result.items }
 {
     let mut forms = ArrayVec::new();
-    append(&mut forms, symbols);
-    append(&mut forms, others);
-    append(&mut forms, operands);
+    extend(&mut forms, symbols);
+    extend(&mut forms, others);
+    extend(&mut forms, operands);
     append_offsets(&mut forms, places);
     forms
 }
 
-/// Puts forms after others. There is room, the caller's condition.
-fn append(forms: &mut ArrayVec<Form, MOST_FORMS>, more: &[Form])
-    requires room { length forms.old.items + length more.now ≤ 120 }
-    requires small { AllSmallForms forms.old.items }
-    requires more_small { AllSmallForms more.now }
-    ensures forms { forms.new.items ≡ forms.old.items ++ more.now }
-    ensures small { AllSmallForms forms.new.items }
-{
-    extend(forms, more);
-}
-
 /// Puts the forms of offsets after others, piece by piece. There is room, the caller's condition.
 fn append_offsets(forms: &mut ArrayVec<Form, MOST_FORMS>, places: &[Placement<FormOffset>])
-    requires room { length forms.old.items + 3 * length places.now ≤ 120 }
-    requires small { AllSmallForms forms.old.items }
-    requires places_small { AllSmallPlaces places.now }
-    ensures forms { forms.new.items ≡ forms.old.items ++ offset_forms places.now }
-    ensures small { AllSmallForms forms.new.items }
+    requires { length forms.old.items + 3 * length places.now ≤ 120 }
+    ensures { forms.new.items ≡ forms.old.items ++ offset_forms places.now }
 {
     for piece in 0..places.len() {
         append_offset(forms, &places[piece]);
@@ -447,18 +420,13 @@ fn append_offsets(forms: &mut ArrayVec<Form, MOST_FORMS>, places: &[Placement<Fo
 /// Puts the three forms of an offset after others, and none where the piece is apart. There is room,
 /// the caller's condition.
 pub(super) fn append_offset(forms: &mut ArrayVec<Form, MOST_FORMS>, place: &Placement<FormOffset>)
-    requires room { length forms.old.items + 3 ≤ 120 }
-    requires small { AllSmallForms forms.old.items }
-    requires place_small { AllSmallPlaces (place.now ∷ []) }
-    ensures forms { forms.new.items ≡ forms.old.items ++ offset_forms (place.now ∷ []) }
-    ensures small { AllSmallForms forms.new.items }
+    requires { length forms.old.items + 3 ≤ 120 }
+    ensures { forms.new.items ≡ forms.old.items ++ offset_forms (place.now ∷ []) }
 {
     if let Placement::On { position, .. } = place {
-        append(forms, &[position.x, position.y, position.z]);
+        extend(forms, &[position.x, position.y, position.z]);
     }
 }
-
-// Meeting an exit frame.
 
 /// Whether a state meets an exit frame. First what is asked without regard to points: each of the
 /// first slots, as many as the frame's procedure has parameters, is known, there are as many

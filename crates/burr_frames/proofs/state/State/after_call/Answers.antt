@@ -1,7 +1,7 @@
 -- Where there is no state after, and what it is where there is one.
-use Rattle.std.proofs.Common.{rules, ℕ, All, Option, ◌≡◌, ◌<◌, ◌≤◌, ◌∙◌, ◌+◌, ◌++◌, ap, sym, subst, List, length, drop, map, inl, inr, arith}
+use Rattle.std.proofs.Common.{rules, ℕ, All, Option, ◌≡◌, ◌<◌, ◌≤◌, ◌∙◌, ◌+◌, ◌-◌, ◌++◌, take, ap, sym, subst, List, length, drop, map, inl, inr, arith}
 use Rattle.std.specs.Prelude.{reverse}
-use Rattle.std.proofs.lemmas.List.{reverse-reverse, length-append}
+use Rattle.std.proofs.lemmas.List.{reverse-reverse, length-append, length-take-le}
 use Rattle.std.proofs.lemmas.List.Elements.{All-append}
 use Rattle.std.proofs.lemmas.Result.{err_from_is_err_and}
 use Rattle.burr_forms.specs.Rules.Points.{AreRanges}
@@ -12,7 +12,8 @@ use Rattle.burr_frames.specs.Rules.FramedPlans.{FramedExit}
 use Rattle.burr_frames.specs.Rules.SpaceRules.{AllSmallPlaces}
 use Rattle.burr_frames.specs.Rules.ControlRules.{symbols_from, result_symbols, substituted_places}
 use Rattle.burr_frames.proofs.Offsets.{small_reversed}
-use Rattle.burr_frames.proofs.After.{too_many_ranges, too_many_guards, has_room, large_places, large_guards, small_after, small_joined}
+use Rattle.burr_frames.proofs.After.{too_many_ranges, too_many_guards, has_room, large_places, large_guards, small_after, small_joined, small_left, operands_left}
+use Rattle.burr_frames.proofs.CallArguments.{left_many}
 use Rattle.burr_frames.proofs.state.State.after_call.Goals as goal
 
 abbrev ranges_in : AbstractState → ℕ
@@ -68,8 +69,10 @@ invariant_of-result c = record {
       (subst AllSmallForms (sym c.as_slice-7.ensures.value) c.in_ok-guards.ensures.1));
   slots = subst (λ (slots : List (Option Form)). All IsSmallSlot slots) (sym c.copied_slots.ensures) c.self.invariant.slots;
   operands =
-      small_reversed (reverse c.operands_after.result.items)
-      (subst AllSmallForms (sym (reverse-reverse c.operands_after.result.items)) c.operands_after.ensures.small);
+      small_reversed (reverse c.joined-2.result.items)
+      (subst AllSmallForms (sym (reverse-reverse c.joined-2.result.items))
+      (small_left c.self.inside.operands.items c.deref.result.now (c.len-5.result - length c.args.arguments.now) _ _ c.self.invariant.operands c.deref.ensures.0
+      (subst AllSmallForms (sym c.as_slice-8.ensures.value) c.symbols_from-results.ensures.small) c.joined-2.ensures));
   places = c.in_ok-places.ensures.1;
   cost = c.self.invariant.cost;
 }
@@ -99,8 +102,10 @@ returns c =
     c.joined.ensures
     ∙ (λ i. (c.as_slice-6.ensures.value ∙ ap (λ (t : AbstractState). t.guards) c.self.view_is) i ++ (c.as_slice-7.ensures.value ∙ guards) i) in
     let slots = c.copied_slots.ensures ∙ ap (λ (t : AbstractState). t.slots) c.self.view_is in
-    let operands : reverse c.operands_after.result.items ≡ reverse (result_symbols s exit) ++ below =
-    c.operands_after.ensures.operands ∙ (λ i. reverse ((c.as_slice-8.ensures.value ∙ sym c.as_slice.ensures.value ∙ results) i) ++ below) in
+    let operands : reverse c.joined-2.result.items ≡ reverse (result_symbols s exit) ++ below =
+    operands_left (length arguments) c.self.inside.operands.items s.operands (result_symbols s exit) _
+    (ap (λ (t : AbstractState). t.operands) c.self.view_is)
+    (c.joined-2.ensures ∙ (λ i. take (c.len-5.ensures.value i - length arguments) (c.deref.ensures.0 i) ++ (c.as_slice-8.ensures.value ∙ sym c.as_slice.ensures.value ∙ results) i)) in
     let tray = ap (λ (e : FramedExit). e.tray) c.exit.view_is in
     let grip = ap (λ (e : FramedExit). e.grip) c.exit.view_is in
     let cost = ap (λ (t : AbstractState). t.cost) c.self.view_is in
@@ -157,14 +162,18 @@ guards_with-requires-clause-small c =
     small_joined c.args.arguments.now c.as_slice.result.now c.joined-symbols.result.items c.as_slice-5.result.now c.requires.small
     (subst AllSmallForms (sym c.as_slice.ensures.value) c.symbols_from-results.ensures.small) c.joined-symbols.ensures c.as_slice-5.ensures.value
 
-pub operands_after-requires-clause-small : goal.operands_after-requires-clause-small
-operands_after-requires-clause-small c = subst AllSmallForms (sym c.as_slice-8.ensures.value) c.symbols_from-results.ensures.small
-
-pub operands_after-requires-clause-room : goal.operands_after-requires-clause-room
-operands_after-requires-clause-room c =
+pub joined-requires-2 : goal.joined-requires-2
+joined-requires-2 c =
+    let left = left_many (length c.args.arguments.now) c.self.inside.operands.items c.args.self.now.operands (ap (λ (t : AbstractState). t.operands) c.self.view_is) in
+    let most =
+    length-take-le (c.len-5.result - length c.args.arguments.now) c.deref.result.now
+    (omega (arith, c.len-5.ensures.value, ap (length {A = Form}) c.deref.ensures.0)) in
     omega (
       arith,
       c.requires.room,
+      left,
+      most,
+      c.len-5.ensures.value,
       ap (length {A = Form}) c.as_slice-8.ensures.value,
       c.symbols_from-results.ensures.many,
       c.len-4.ensures.value ∙ ap results_in c.exit.view_is,

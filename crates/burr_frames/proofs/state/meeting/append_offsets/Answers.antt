@@ -1,19 +1,12 @@
 -- Each piece gives the forms of its offset.
-use Rattle.std.proofs.Common.{◌≡◌, ◌∙◌, ap, sym, subst, List, [], ◌∷◌, ◌++◌, length, take, append_assoc, arith}
+use Rattle.std.proofs.Common.{◌≡◌, ◌∙◌, ap, sym, List, [], ◌∷◌, ◌++◌, length, take, append_assoc, arith}
 use Rattle.std.proofs.lemmas.List.{length-append}
 use Rattle.burr_code.specs.declared.placement.Placement.{Placement}
 use Rattle.burr_container.specs.Rules.Plans.{FormCell}
 use Rattle.burr_forms.specs.Rules.Forms.{Form}
-use Rattle.burr_frames.specs.Rules.SpaceRules.{AllSmallPlaces}
 use Rattle.burr_frames.specs.Views.Comparing.{offset_forms}
 use Rattle.burr_frames.proofs.Offsets.{offsets_more, three_at_most}
-use Rattle.burr_frames.proofs.SmallPlaces.{small_place_at}
 use Rattle.burr_frames.proofs.state.meeting.append_offsets.Goals as goal
-
-pub append_offset-requires-clause-place_small : goal.append_offset-requires-clause-place_small
-append_offset-requires-clause-place_small c =
-    subst (λ (x : Placement FormCell). AllSmallPlaces (x ∷ [])) (sym c.index-places-piece.is)
-    (small_place_at c.args.places.now c.loop-piece.piece c.index-places-piece.result c.requires.places_small c.loop-piece-test.true)
 
 pub loop-piece-preserved : goal.loop-piece-preserved
 loop-piece-preserved c =
@@ -24,12 +17,11 @@ loop-piece-preserved c =
     let before = c.loop-piece.forms.items in
     let front = offset_forms (take p places) in
     let here = offset_forms (place ∷ []) in
-    let items : c.append_offset.new.forms.items ≡ before ++ here = c.append_offset.ensures.forms in
+    let items : c.append_offset.new.forms.items ≡ before ++ here = c.append_offset.ensures in
     let few = three_at_most place in
     record {
       forms = items ∙ ap (λ (fs : List Form). fs ++ here) old.forms
           ∙ append_assoc c.args.forms.now.items front here
           ∙ ap (λ (fs : List Form). c.args.forms.now.items ++ fs) (sym (offsets_more places p place c.loop-piece-test.true c.index-places-piece.is));
-      small = c.append_offset.ensures.small;
       room = omega (arith, ap (length {A = Form}) items, length-append before here, old.room, few);
     }
