@@ -5,7 +5,7 @@ use Rattle.std.proofs.lemmas.List.Elements.{All-nil, All-push, All-set, All-repl
 use Rattle.std.specs.Prelude.{FitsSigned}
 use Rattle.std.specs.Int.{w16, w32}
 use Rattle.std.proofs.lemmas.Int.{to_z-of_z}
-use Rattle.burr_forms.specs.Rules.Forms.{Form, symbol}
+use Rattle.burr_forms.specs.Rules.Forms.{symbol}
 use Rattle.burr_forms.specs.Rules.Points.{IsRange, AreRanges}
 use Rattle.burr_container.specs.Views.Refs.{frame_of}
 use Rattle.burr_container.specs.Rules.Plans.{Range}

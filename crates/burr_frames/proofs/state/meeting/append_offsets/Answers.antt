@@ -1,8 +1,6 @@
 -- Each piece gives the forms of its offset.
 use Rattle.std.proofs.Common.{◌≡◌, ◌∙◌, ap, sym, List, [], ◌∷◌, ◌++◌, length, take, append_assoc, arith}
 use Rattle.std.proofs.lemmas.List.{length-append}
-use Rattle.burr_code.specs.declared.placement.Placement.{Placement}
-use Rattle.burr_container.specs.Rules.Plans.{FormCell}
 use Rattle.burr_forms.specs.Rules.Forms.{Form}
 use Rattle.burr_frames.specs.Views.Comparing.{offset_forms}
 use Rattle.burr_frames.proofs.Offsets.{offsets_more, three_at_most}
