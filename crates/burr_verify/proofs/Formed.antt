@@ -1,11 +1,14 @@
 -- What is read of a container's frames, beside what the plan says: parameters, exit frames, labels, and
 -- what tests of them answer.
-use Rattle.std.proofs.Common.{◌≡◌, ◌↔◌, ℕ, ◌<◌, ◌≤◌, Bool, false, IsTrue, Option, Some, None, List, [], ◌∷◌, length, map, refl, sym, ap, ◌∙◌, subst, arith}
-use Rattle.std.specs.Prelude.{slice_get}
+use Rattle.std.proofs.Common.{◌≡◌, ◌↔◌, ℕ, ◌<◌, ◌≤◌, ◌==◌, Bool, false, IsTrue, Option, Some, None, List, [], ◌∷◌, length, map, refl, sym, ap, ◌∙◌, subst, arith}
+use Rattle.std.specs.Prelude.{slice_get, true}
+use Rattle.std.specs.Option.{is_some}
 use Rattle.std.proofs.lemmas.Bool.{false≢true}
-use Rattle.std.proofs.lemmas.Option.{slice_get_within}
+use Rattle.std.proofs.lemmas.Bool.Decides.{nat_tests}
+use Rattle.std.proofs.lemmas.List.{length-map}
+use Rattle.std.proofs.lemmas.Option.{none-some, same_Some, slice_get_within}
 use Rattle.burr_code.specs.declared.placement.Placement.{Placement}
-use Rattle.burr_code.specs.Places.{AllLieIn, tray_of}
+use Rattle.burr_code.specs.Places.{AllLieIn}
 use Rattle.burr_forms.specs.Rules.Points.{box_size}
 use Rattle.burr_container.specs.declared.frame_ref.FrameRef.{FrameRef}
 use Rattle.burr_container.specs.Views.Containers.{ContainerView, IsContainer, OfLabel}
@@ -17,7 +20,7 @@ use Rattle.burr_frames.specs.Views.Exits.{framed_ref}
 use Rattle.burr_frames.specs.Rules.FramedPlans.{FramedExit, FramedProcedure, framed, framed_procedure, framed_plan}
 use Rattle.burr_frames.specs.Rules.States.{AbstractState, state_of}
 use Rattle.burr_frames.proofs.Common.ExitsRead.{no_exit, exit_there}
-use Rattle.burr_verify.specs.Views.Forming.{IsLive, IsFormedAt, OfTrays}
+use Rattle.burr_verify.specs.Views.Forming.{IsLive, IsFormedAt}
 use Rattle.burr_verify.specs.Rules.Judging.{HasRoomForPoints}
 use Rattle.burr_verify.specs.Rules.WellFramed.{HasNoLonePiece, IsFormedEntry, IsFormedExit}
 use Rattle.burr_verify.proofs.LabelPlaces.{frame_read, place_of}
@@ -37,38 +40,51 @@ no_exit_here pieces q here same is =
 
 -- Tests of frames
 
--- what a test of trays says of places that are in them
-pub lies_by : (places : List (Placement FormCell)) (trays : List (Option ℕ)) (tray there grip set : ℕ) (b : Bool)
-    → map tray_of places ≡ trays → tray ≡ there → grip ≡ set
-    → OfTrays trays (λ (ps : List (Placement FormCell)). IsTrue b ↔ AllLieIn ps tray grip)
-    → IsTrue b ↔ AllLieIn places there set
-lies_by places trays tray there grip set b are e f test =
-    subst (λ (s : ℕ). IsTrue b ↔ AllLieIn places there s) f
-    (subst (λ (t : ℕ). IsTrue b ↔ AllLieIn places t grip) e (test places are))
+-- what a test of places that are read says of those that are there
+pieces_formed : (read places : List (Placement FormCell)) (there tray set grip : ℕ) (b : Bool) → read ≡ places → there ≡ tray
+    → set ≡ grip → IsTrue b ↔ (AllLieIn read there set × HasNoLonePiece read)
+    → IsTrue b ↔ (AllLieIn places tray grip × HasNoLonePiece places)
+pieces_formed read places there tray set grip b e f g test =
+    subst (λ (s : ℕ). IsTrue b ↔ (AllLieIn places tray s × HasNoLonePiece places)) g
+    (subst (λ (t : ℕ). IsTrue b ↔ (AllLieIn places t set × HasNoLonePiece places)) f
+    (subst (λ (ps : List (Placement FormCell)). IsTrue b ↔ (AllLieIn ps there set × HasNoLonePiece ps)) e test))
 
-pub exit_formed : (f : FramedExit) (b : Bool) → AllLieIn f.places f.tray f.grip → IsTrue b ↔ HasNoLonePiece f.places
-    → IsTrue b ↔ IsFormedExit f
-exit_formed f b gripped lone =
-    (λ is. record { gripped = gripped; trays = lone.0 is }, λ formed. lone.1 formed.trays)
+pub exit_formed : (f : FramedExit) (read : List (Placement FormCell)) (there set : ℕ) (b : Bool) → read ≡ f.places → there ≡ f.tray
+    → set ≡ f.grip → IsTrue b ↔ (AllLieIn read there set × HasNoLonePiece read) → IsTrue b ↔ IsFormedExit f
+exit_formed f read there set b e g h test =
+    let both = pieces_formed read f.places there f.tray set f.grip b e g h test in
+    (λ is. record { gripped = (both.0 is).0; trays = (both.0 is).1 }, λ formed. both.1 (formed.gripped, formed.trays))
 
-pub exit_not_gripped : (f : FramedExit) (b : Bool) → b ≡ false → IsTrue b ↔ AllLieIn f.places f.tray f.grip
-    → IsTrue b ↔ IsFormedExit f
-exit_not_gripped f b e gripped = (λ is. absurd (false≢true (sym e ∙ is)), λ formed. gripped.1 formed.gripped)
+-- whether a slot is live
+pub is_live : (slots : List (Option Range)) (v : ℕ) (o : Option Range) → slice_get slots v ≡ Some o → is_some o ≡ true → IsLive slots v
+is_live slots v None at some = absurd (false≢true some)
+is_live slots v (Some range) at some = (range, at)
+
+pub is_not_live : (slots : List (Option Range)) (v : ℕ) (o : Option Range) → slice_get slots v ≡ Some o → is_some o ≡ false
+    → ¬ IsLive slots v
+is_not_live slots v None at none live = none-some live.0 (same_Some None (Some live.0) (sym at ∙ live.1))
+is_not_live slots v (Some range) at none live = false≢true (sym none)
 
 none_of : {A B : Type 0} (f : A → B) (xs : List A) → length xs ≡ 0 → map f xs ≡ []
 none_of f [] none = refl
 none_of f (x ∷ xs) none = absurd (omega (arith, none))
 
--- where no operand is there
-pub entry_formed : (parameters : ℕ) (f : Frame) (b : Bool) → length f.stack ≡ 0
-    → IsTrue b ↔ ((v : ℕ) → parameters ≤ v → ¬ IsLive f.slots v) → IsTrue b ↔ IsFormedEntry parameters (framed f)
-entry_formed parameters f b none alone = (
+-- where no other slot is live the operands decide
+pub entry_formed : (parameters : ℕ) (f : Frame) (count : ℕ) → count ≡ length f.stack
+    → ((v : ℕ) → parameters ≤ v → ¬ IsLive f.slots v) → IsTrue (count == 0) ↔ IsFormedEntry parameters (framed f)
+entry_formed parameters f count same alone = (
   λ is. record {
-    alone = λ v from range e. alone.0 is v from (range, e);
-    bare = none_of (over_symbols (live_slots f.slots)) f.stack none;
+    alone = λ v from range e. alone v from (range, e);
+    bare = none_of (over_symbols (live_slots f.slots)) f.stack (omega (arith, same, zero_of count is));
   },
-  λ formed. alone.1 (λ v from live. formed.alone v from live.0 live.1),
+  λ formed. is_zero count (omega (arith, same, ap length formed.bare, length-map f.stack (over_symbols (live_slots f.slots)))),
 )
+  where
+    zero_of : (n : ℕ) → IsTrue (n == 0) → n ≡ 0
+    zero_of n is = grind (arith, nat_tests)
+
+    is_zero : (n : ℕ) → n ≡ 0 → IsTrue (n == 0)
+    is_zero n none = grind (arith, nat_tests)
 
 -- the slots past the eight are not live
 pub none_live : (slots : List (Option Range)) (from : ℕ) → length slots ≡ 8

@@ -1,5 +1,5 @@
 -- Numbers of a state at a point: a slot more, and places that are small.
-use Rattle.std.proofs.Common.{◌≡◌, ◌⊎◌, ◌<◌, ◌+◌, ℕ, zero, suc, ℤ, List, [], ◌∷◌, ◌++◌, length, get_or, Option, None, refl, sym, ap, ◌∙◌, inl, inr, arith}
+use Rattle.std.proofs.Common.{◌≡◌, ◌⊎◌, ◌<◌, ◌+◌, ℕ, zero, suc, ℤ, List, [], ◌∷◌, ◌++◌, length, get_or, Option, Some, None, refl, sym, ap, ◌∙◌, inl, inr, arith}
 use Rattle.std.specs.Prelude.{reverse, slice_set, slice_index_or}
 use Rattle.std.proofs.lemmas.Bool.{cases_order}
 use Rattle.std.proofs.lemmas.List.{get_or-set_same, get_or-set_other, map-append, reverse-append}
@@ -7,6 +7,7 @@ use Rattle.burr_code.specs.declared.placement.Placement.{Placement}
 use Rattle.burr_code.specs.declared.placement.Placement.TheVariants.{Apart, On}
 use Rattle.burr_forms.specs.Rules.Forms.{Form, Point, value, values}
 use Rattle.burr_container.specs.Rules.Plans.{FormCell}
+use Rattle.burr_container.specs.Views.Refs.{placement_view, IsSmallPlace}
 use Rattle.burr_frames.specs.Rules.SpaceRules.{AllSmallPlaces}
 
 -- the slots as far as v are as wanted, and the next one is set so
@@ -27,6 +28,14 @@ small_place_at (Apart ∷ places) zero d s l = tt
 small_place_at (Apart ∷ places) (suc p) d s l = small_place_at places p d s (omega (arith, l))
 small_place_at (On tray c ∷ places) zero d s l = (s.0, s.1, s.2, tt)
 small_place_at (On tray c ∷ places) (suc p) d s l = small_place_at places p d s.3 (omega (arith, l))
+
+-- a place more that is read
+pub small_on : (places : List (Placement FormCell)) (read : Option (ℕ × Form × Form × Form)) → AllSmallPlaces places → IsSmallPlace read
+    → AllSmallPlaces (places ++ placement_view read ∷ [])
+small_on [] None s t = tt
+small_on [] (Some at) s t = (t.0, t.1, t.2, tt)
+small_on (Apart ∷ places) read s t = small_on places read s t
+small_on (On tray c ∷ places) read s t = (s.0, s.1, s.2, small_on places read s.3 t)
 
 -- values of forms, the other way round
 pub reverse_values : (point : Point) (forms : List Form) → reverse (values point forms) ≡ values point (reverse forms)

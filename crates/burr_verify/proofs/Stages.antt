@@ -65,6 +65,13 @@ pub told_broken : (r : Refusal) (told n pc : ℕ) (b : Broken) → Refuses (fail
     → Refuses (failed_check r) ≡ broken n pc b
 told_broken r told n pc b same e = same ∙ ap (λ (k : ℕ). broken k pc b) e
 
+-- the same of a refusal that names no more than a rule, but for the point at which a state does not arrive
+pub told_missed : (r : Refusal) (told n last : ℕ) (o : Option Point) → r ≡ plain_refusal told last rules.FrameMissed → told ≡ n
+    → Refuses (record { procedure = r.proc; pc = r.pc; rule = r.rule; pieces = r.pieces; point = o }) ≡ broken n last (missed_break rules.FrameMissed o)
+told_missed r told n last o is e =
+    ap (λ (q : Refusal). Refuses (record { procedure = q.proc; pc = q.pc; rule = q.rule; pieces = q.pieces; point = o })) is
+    ∙ ap (λ (k : ℕ). broken k last (missed_break rules.FrameMissed o)) e
+
 -- it does not arrive
 pub misses_label : (homes : List (List Cell)) (plan : FramedPlan) (n : ℕ) (here : FramedProcedure) (last pc : ℕ) (f : Frame)
     (falling : Option AbstractState) (o : Option Point) (r : Refusal) → pc ≢ length here.code → IsLabelled here pc f

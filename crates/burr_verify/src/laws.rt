@@ -2,10 +2,8 @@ ghost use Rattle.std.specs.Prelude.{◌≤◌, length};
 ghost use Rattle.burr_assembly.specs.Rules.Text.{IsAssembly};
 ghost use Rattle.burr_container.specs.Rules.Plans.{Plan};
 ghost use Rattle.burr_container.specs.Views.Containers.{IsContainer, HasPlan};
-ghost use Rattle.burr_verify.specs.Laws.LookingLaws.{SomePassLooks, OnePassLooks, SomeLooking};
-ghost use Rattle.burr_verify.specs.Laws.LookingLaws.{OneLooking, LookingIsJudging, FewLooks};
-ghost use Rattle.burr_verify.specs.Laws.VerifyLaws.{OnePass, PassIsCut, RefusalIsFirst, OneJudging, JudgingIsFraming, JudgingRefuses};
-ghost use Rattle.burr_verify.specs.Laws.VerifyLaws.{FittingIsFromContainer};
+ghost use Rattle.burr_verify.specs.Laws.LookingLaws.{SomePassLooks, OnePassLooks, SomeLooking, OneLooking, LookingIsJudging, FewLooks};
+ghost use Rattle.burr_verify.specs.Laws.VerifyLaws.{OnePass, PassIsCut, RefusalIsFirst, OneJudging, JudgingIsFraming, JudgingRefuses, FittingIsFromContainer};
 
 use burr_assembly::Assembly;
 use burr_container::Container;

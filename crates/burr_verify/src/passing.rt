@@ -86,7 +86,10 @@ fn enter(
         None => Err(Refusal::plain(procedure.number(), pc as u16, Rule::MissingFrame)),
         Some(label) => match enter_frame(&procedure.frame(label), state) {
             Ok(()) => Ok(()),
-            Err(miss) => Err(Refusal::missed(procedure.number(), last as u16, miss)),
+            Err(miss) => Err(Refusal {
+                point: miss.point,
+                ..Refusal::plain(procedure.number(), last as u16, Rule::FrameMissed)
+            }),
         },
     }
 }

@@ -3,11 +3,12 @@
 ghost use Rattle.std.specs.Prelude.{◌≡◌, ◌≤◌, ◌<◌, ◌∷◌, [], ℕ, length, map, get_or, option_map, None};
 ghost use Rattle.burr_code.specs.declared.limits.TheConstants.{MOST_OPERANDS, MOST_PIECES};
 ghost use Rattle.burr_code.specs.Places.{at_position};
-ghost use Rattle.burr_forms.specs.Rules.Forms.{AllNear, AllSmallForms, IsNear, IsSmallForm, value, values};
+ghost use Rattle.burr_forms.specs.Rules.Forms.{AllNear, AllSmallForms, IsNear, value, values};
 ghost use Rattle.burr_frames.specs.Rules.SpaceRules.{AllSmallPlaces};
 ghost use Rattle.burr_frames.specs.Rules.States.{cell_at, places_at};
 ghost use Rattle.burr_verify.specs.Views.PointNumbers.{AreNumbersAt, cell_of};
 
+use crate::forming::exit_places;
 use arrayvec::ArrayVec;
 use burr_code::Placement;
 use burr_code::limits::{MOST_OPERANDS, MOST_PIECES, SLOTS};
@@ -18,7 +19,7 @@ use burr_frames::State;
 use std::fmt;
 
 /// What holds at a place of the code, at one point: numbers in place of the verifier's forms.
-#[derive(Drop)]
+#[derive(Default, Drop)]
 pub struct PointState {
     /// The numbers that were open, in the order of the point.
     pub symbols: Point,
@@ -34,15 +35,7 @@ pub struct PointState {
 impl PointState {
     /// No piece, and no number.
     pub fn new() -> PointState {
-        PointState {
-            symbols: ArrayVec::new(),
-            slots: [None; SLOTS],
-            operands: ArrayVec::new(),
-            places: ArrayVec::new(),
-            tray: 0,
-            grip: 0,
-            cost: 0,
-        }
+        PointState::default()
     }
 
     /// A state at a point; a number that the point does not have is the lowest of its range.
@@ -78,20 +71,10 @@ impl PointState {
         ensures near { AllNear result.symbols.items }
     {
         let symbols = point_of(numbers);
-        let mut places = ArrayVec::new();
-        for piece in 0..exit.piece_count() {
-            let place = match exit.place(piece) {
-                None => Placement::Apart,
-                Some((tray, x, y, z)) => Placement::On {
-                    tray,
-                    position: Offset::of(&FormOffset { x, y, z }, &symbols),
-                },
-            };
-            let _ = places.try_push(place);
-        }
+        let places = exit_places(exit);
         PointState {
+            places: places_of(places.as_slice(), &symbols),
             symbols,
-            places,
             tray: exit.tray(),
             grip: exit.grip(),
             ..PointState::new()
@@ -100,10 +83,10 @@ impl PointState {
 
     /// Where a piece is; apart where there is no such piece.
     pub fn place(&self, piece: u8) -> Placement<Offset> {
-        match self.places.get(usize::from(piece)) {
-            Some(place) => *place,
-            None => Placement::Apart,
-        }
+        self.places
+            .get(usize::from(piece))
+            .copied()
+            .unwrap_or_default()
     }
 
     /// The arguments of a procedure with this many parameters: the topmost operands.
@@ -121,24 +104,6 @@ pub struct Offset {
     pub x: i64,
     pub y: i64,
     pub z: i64,
-}
-
-impl Offset {
-    /// The offset that forms give for these values of their symbols.
-    fn of(forms: &FormOffset, symbols: &[i32]) -> Offset
-        requires x { IsSmallForm forms.now.x }
-        requires y { IsSmallForm forms.now.y }
-        requires z { IsSmallForm forms.now.z }
-        requires near { AllNear symbols.now }
-        requires few { length symbols.now ≤ 8 }
-        ensures { cell_of result ≡ cell_at symbols.now forms.now }
-    {
-        Offset {
-            x: forms.x.value_at(symbols),
-            y: forms.y.value_at(symbols),
-            z: forms.z.value_at(symbols),
-        }
-    }
 }
 
 impl fmt::Display for Offset {
@@ -211,7 +176,11 @@ fn place_at(place: &Placement<FormOffset>, symbols: &Point) -> Placement<Offset>
         Placement::Apart => Placement::Apart,
         Placement::On { tray, position } => Placement::On {
             tray: *tray,
-            position: Offset::of(position, symbols),
+            position: Offset {
+                x: position.x.value_at(symbols),
+                y: position.y.value_at(symbols),
+                z: position.z.value_at(symbols),
+            },
         },
     }
 }

@@ -1,17 +1,16 @@
-ghost use Rattle.std.specs.Prelude.{◌≡◌, option_map, ◌↔◌, IsOk, OnOk, IfErr, length};
+ghost use Rattle.std.specs.Prelude.{◌≡◌, ◌↔◌, IsOk, OnOk, IfErr, length};
 ghost use Rattle.burr_container.specs.Rules.Plans.{Plan};
 ghost use Rattle.burr_container.specs.Views.Containers.{IsContainer};
-ghost use Rattle.burr_frames.specs.Views.Breaks.{broken_of, missed_break};
+ghost use Rattle.burr_frames.specs.Views.Breaks.{broken_of};
 ghost use Rattle.burr_verify.specs.Rules.Pass.{Refuses, broken as broken_in};
 ghost use Rattle.burr_verify.specs.Views.Refusals.{plain_refusal, another_assembly};
 ghost use Rattle.burr_verify.specs.Views.Judgements.{failed_check};
 ghost use Rattle.burr_verify.specs.Rules.Fitting.{FitsAssembly};
-ghost use Rattle.burr_frames.specs.declared.rule.Rule.TheVariants as rules;
 
 use burr_assembly::Assembly;
 use burr_container::Container;
 use burr_forms::Point;
-use burr_frames::{Break, Miss, Rule};
+use burr_frames::{Break, Rule};
 use thiserror::Error;
 
 /// Why a plan is refused: a rule that is broken, and where.
@@ -54,20 +53,6 @@ impl Refusal {
             rule: broken.rule,
             pieces: broken.pieces,
             point: broken.point,
-        }
-    }
-
-    /// The refusal of a state that does not arrive at a label's frame.
-    pub(crate) fn missed(proc: u8, pc: u16, miss: Miss) -> Refusal
-        ensures { Refuses (failed_check result) ≡ broken_in proc pc
-            (missed_break rules.FrameMissed (option_map (λ point. point.items) miss.point)) }
-    {
-        Refusal {
-            proc,
-            pc,
-            rule: Rule::FrameMissed,
-            pieces: None,
-            point: miss.point,
         }
     }
 }

@@ -100,8 +100,7 @@ pub fn label_within(procedure: ProcedureRef<'_, '_>, from: usize, end: usize) ->
         IsLabelWithin here from end result) }
 {
     let label = count_before(procedure, from);
-    let after = count_before(procedure, end);
-    if label < after {
+    if label < count_before(procedure, end) {
         return Some(label);
     }
     None

@@ -1,9 +1,7 @@
 -- Frames by themselves: the checks of one label, and what is read of a frame for them.
-use Rattle.std.specs.Prelude.{◌≡◌, ℕ, zero, suc, List, Option, Some, slice_get, map}
+use Rattle.std.specs.Prelude.{◌≡◌, ℕ, zero, suc, List, Option, Some, slice_get}
 use Rattle.burr_text.specs.Checks.{needs}
-use Rattle.burr_code.specs.declared.placement.Placement.{Placement}
-use Rattle.burr_code.specs.Places.{tray_of}
-use Rattle.burr_container.specs.Rules.Plans.{FormCell, Range, Frame}
+use Rattle.burr_container.specs.Rules.Plans.{Range, Frame}
 use Rattle.burr_frames.specs.declared.rule.Rule.TheVariants as rules
 use Rattle.burr_verify.specs.Rules.Judging.{Rest, HasRoomForPoints}
 use Rattle.burr_verify.specs.Rules.Pass.{refused}
@@ -12,11 +10,6 @@ use Rattle.burr_verify.specs.Rules.WellFramed.{IsFormed, IsFormedEntry}
 -- slot v is live
 abbrev pub IsLive : List (Option Range) → ℕ → Type 0
 IsLive slots v = (range : Range) × (slice_get slots v ≡ Some (Some range))
-
--- it holds of all places that are in these trays
-abbrev pub OfTrays : List (Option ℕ) → (List (Placement FormCell) → Type 0) → Type 0
-OfTrays trays Holds =
-    (places : List (Placement FormCell)) → map tray_of places ≡ trays → Holds places
 
 -- the frame of label k is well formed; that of label 0 is the entry frame
 abbrev pub IsFormedAt : ℕ → ℕ → Frame → Type 0

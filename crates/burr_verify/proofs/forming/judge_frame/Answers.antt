@@ -28,7 +28,7 @@ returns-then-not-has_room_for_points c p here is at label standing =
       yes_of (formed_there c.args.label c.params.result here.parameters (framed (frame_of c.frame-frame.result)) label.1 true
           (sym (parameters_read c.args.procedure c.params.result c.params.ensures.plan p here is at)) read.1 c.if-not-is_formed_at.ensures),
       inl (
-        no_of (room_there c.of.result (framed (frame_of c.frame-frame.result)) label.1 false c.of.ensures read.1 c.if-not-has_room_for_points.ensures),
+        no_of (room_there c.of-state.result (framed (frame_of c.frame-frame.result)) label.1 false c.of-state.ensures read.1 c.if-not-has_room_for_points.ensures),
         plainly_refused c.plain-then-not-has_room_for_points.result c.number-number.result c.label-place.result c.args.procedure.number label.0 rules.StateTooLarge
             c.plain-then-not-has_room_for_points.ensures c.number-number.ensures.number read.0,
       ),
@@ -41,5 +41,5 @@ returns c p here is at label standing =
     inr (
       yes_of (formed_there c.args.label c.params.result here.parameters (framed (frame_of c.frame-frame.result)) label.1 true
           (sym (parameters_read c.args.procedure c.params.result c.params.ensures.plan p here is at)) read.1 c.if-not-is_formed_at.ensures),
-      inr (yes_of (room_there c.of.result (framed (frame_of c.frame-frame.result)) label.1 true c.of.ensures read.1 c.if-not-has_room_for_points.ensures), refl),
+      inr (yes_of (room_there c.of-state.result (framed (frame_of c.frame-frame.result)) label.1 true c.of-state.ensures read.1 c.if-not-has_room_for_points.ensures), refl),
     )

@@ -4,7 +4,6 @@ use Rattle.burr_container.specs.Rules.Plans.{Frame}
 use Rattle.burr_container.specs.Views.Refs.{frame_of}
 use Rattle.burr_frames.specs.declared.rule.Rule.TheVariants as rules
 use Rattle.burr_frames.specs.Views.ArrivalViews.{missed_at}
-use Rattle.burr_frames.specs.Views.Breaks.{missed_break}
 use Rattle.burr_frames.specs.Rules.Verdicts.{NoSuccessor}
 use Rattle.burr_frames.specs.Rules.FramedPlans.{framed, framed_plan}
 use Rattle.burr_frames.specs.Rules.Looks.{HasRoom}
@@ -15,7 +14,7 @@ use Rattle.burr_verify.specs.Views.LookViews.{HasRoomBefore}
 use Rattle.burr_verify.proofs.JudgedOn.{plainly_refused}
 use Rattle.burr_verify.proofs.LabelPlaces.{frame_read}
 use Rattle.burr_verify.proofs.LookedOn.{looks_entered}
-use Rattle.burr_verify.proofs.Stages.{no_label, at_label, enters_bare, enters_label, misses_label, stops_from, stops_by, none_found, one_found, told_broken, none_where, some_where}
+use Rattle.burr_verify.proofs.Stages.{no_label, at_label, enters_bare, enters_label, misses_label, stops_from, stops_by, none_found, one_found, told_missed, none_where, some_where}
 use Rattle.burr_verify.proofs.passing.enter.Goals as goal
 
 pub returns-in-None-clause-passes : goal.returns-in-None-clause-passes
@@ -55,8 +54,8 @@ returns-in-Err-clause-passes c = λ homes p here kept at more.
     let read = frame_read c.args.procedure.container.now c.args.procedure.number c.in-Some.label c.frame.result c.frame.ensures.plan p here kept at l.0 l.1 in
     let point = option_map (λ point. point.items) c.in-Err.miss.point in
     let missed = subst (λ (f : Frame). ArrivesIfAny c.args.state.now f (missed_at point)) read c.in-Err.ensures.verdict in
-    misses_label homes (framed_plan p) c.args.procedure.number here c.args.last c.args.pc l.0.1 c.args.state.now point c.missed.result more labelled missed
-    (told_broken c.missed.result c.number-in-Err.result c.args.procedure.number c.args.last (missed_break rules.FrameMissed point) c.missed.ensures c.number-in-Err.ensures.number))
+    misses_label homes (framed_plan p) c.args.procedure.number here c.args.last c.args.pc l.0.1 c.args.state.now point _ more labelled missed
+    (told_missed c.plain-in-Err.result c.number-in-Err.result c.args.procedure.number c.args.last point c.plain-in-Err.ensures c.number-in-Err.ensures.number))
 
 pub returns-in-Ok-clause-room : goal.returns-in-Ok-clause-room
 returns-in-Ok-clause-room c =
