@@ -1,5 +1,5 @@
 -- Numbers of a state at a point: a slot more, and places that are small.
-use Rattle.std.proofs.Common.{◌≡◌, ◌⊎◌, ◌<◌, ◌+◌, ℕ, zero, suc, ℤ, List, [], ◌∷◌, ◌++◌, length, get_or, Option, Some, None, refl, sym, ap, ◌∙◌, inl, inr, arith}
+use Rattle.std.proofs.Common.{◌≡◌, ◌⊎◌, ◌<◌, ◌+◌, ℕ, zero, suc, ℤ, List, [], ◌∷◌, ◌++◌, length, get_or, Option, Some, None, refl, sym, ap, subst, ◌∙◌, inl, inr, arith}
 use Rattle.std.specs.Prelude.{reverse, slice_set, slice_index_or}
 use Rattle.std.proofs.lemmas.Bool.{cases_order}
 use Rattle.std.proofs.lemmas.List.{get_or-set_same, get_or-set_other, map-append, reverse-append}
@@ -9,6 +9,9 @@ use Rattle.burr_forms.specs.Rules.Forms.{Form, Point, value, values}
 use Rattle.burr_container.specs.Rules.Plans.{FormCell}
 use Rattle.burr_container.specs.Views.Refs.{placement_view, IsSmallPlace}
 use Rattle.burr_frames.specs.Rules.SpaceRules.{AllSmallPlaces}
+use Rattle.burr_frames.specs.Rules.States.{AbstractState}
+use Rattle.burr_verify.specs.declared.point_state.PointState.{PointState}
+use Rattle.burr_verify.specs.Views.PointNumbers.{AreNumbersAt}
 
 -- the slots as far as v are as wanted, and the next one is set so
 pub one_more : (Wanted : ℕ → Option ℤ) (slots : List (Option ℤ)) (v : ℕ) (x : Option ℤ) → v < length slots → ((n : ℕ) → n < v → get_or slots n None ≡ Wanted n)
@@ -43,3 +46,7 @@ reverse_values point [] = refl
 reverse_values point (f ∷ forms) =
     reverse-append (value point f ∷ []) (values point forms) ∙ ap (λ (xs : List ℤ). xs ++ value point f ∷ []) (reverse_values point forms)
     ∙ sym (map-append (value point) (reverse forms) (f ∷ [])) ∙ sym (ap (λ (fs : List Form). values point fs) (reverse-append (f ∷ []) forms))
+
+-- numbers at a point that is the same
+pub at_same : (s : AbstractState) (here there : Point) (n : PointState) → here ≡ there → AreNumbersAt s here n → AreNumbersAt s there n
+at_same s here there n same are = subst (λ (p : Point). AreNumbersAt s p n) same are

@@ -47,14 +47,6 @@ impl PointState {
         for (n, range) in state.ranges().iter().enumerate() {
             symbols.push(number_at(point, n, range.0));
         }
-        PointState::of(state, symbols)
-    }
-
-    /// A state, for these values of its symbols.
-    fn of(state: &State, symbols: Point) -> PointState
-        requires near { AllNear symbols.items }
-        ensures { AreNumbersAt state.now symbols.items result }
-    {
         PointState {
             slots: slots_at(state, &symbols),
             operands: operands_at(state.operands(), &symbols),
