@@ -91,8 +91,8 @@ pub labels_of : (kept : ContainerView) (p : Plan) (q : PlanProcedure) (i : ℕ) 
     → IsContainer kept p → slice_get p.procedures i ≡ Some q
     → FitsLabels p.pieces (length q.code) q.labels
 labels_of kept p q i has is here =
-    labels_fit p.pieces (length q.code) q.labels
-    (procedure_fits p i q (fits_where_kept kept p has is) here).labels
+    let (main, parameters, results, exit, labels, code) = procedure_fits p i q (fits_where_kept kept p has is) here in
+    labels_fit p.pieces (length q.code) q.labels labels
 
 pub block_bounds : (kept : ContainerView) (i n start end : ℕ) (code : List ℕ) → HasPlan kept
     → i < length kept.procedures → HasLabel kept i n → OfLabel kept i n (λ l. start ≡ l.0)

@@ -19,24 +19,17 @@ use Rattle.burr_plantext.proofs.Common.CodeSizes.{some_bytes}
 
 -- How many bytes a line of code stands for
 
-label_sizes : (f : ℕ → ℕ) (labels : List ℕ)
-    → length (label_bytes (map f labels)) ≡ length (label_bytes labels)
-label_sizes f [] = refl
-label_sizes f (label ∷ labels) = ap (λ (n : ℕ). suc (suc n)) (label_sizes f labels)
-
 two_maps : (f : List ℕ → ℕ) (g : ℕ → List ℕ) (labels : List ℕ)
-    → map f (map g labels) ≡ map (λ n. f (g n)) labels
+    → length (label_bytes (map f (map g labels))) ≡ length (label_bytes labels)
 two_maps f g [] = refl
-two_maps f g (label ∷ labels) = ap (λ (ns : List ℕ). f (g label) ∷ ns) (two_maps f g labels)
+two_maps f g (label ∷ labels) = ap (λ (n : ℕ). suc (suc n)) (two_maps f g labels)
 
 one_size : (s : Statement) → code_size (s ∷ []) ≡ length (statement_bytes [] [] s)
 one_size s = ap (λ (bytes : List ℕ). length bytes) (append-nil (statement_bytes [] [] s))
 
 bytes_size : (i : Instruction)
     → length (statement_bytes [] [] (instruction_listed i)) ≡ length (spelled i)
-bytes_size (code.Pick labels) =
-    ap (λ (ns : List ℕ). suc (suc (length (label_bytes ns)))) (two_maps _ _ labels)
-    ∙ ap (λ (n : ℕ). suc (suc n)) (label_sizes _ labels)
+bytes_size (code.Pick labels) = ap (λ (n : ℕ). suc (suc n)) (two_maps _ _ labels)
 bytes_size _ = refl
 
 pub instruction_size : (i : Instruction) → code_size (instruction_listed i ∷ []) ≡ length (spelled i)

@@ -16,7 +16,7 @@ use Rattle.std.proofs.lemmas.Option.{same_Some, none-some}
 use Rattle.std.proofs.lemmas.Grind.{flat_map-append}
 use Rattle.burr_code.specs.declared.placement.Placement.TheVariants.{Apart, On}
 use Rattle.burr_container.specs.Rules.Fitting.{is_form, is_between, is_coefficient, are_coefficients, is_place, is_tray}
-use Rattle.burr_plantext.proofs.Steps.{left_at, one_more}
+use Rattle.burr_plantext.proofs.Steps.{left_at}
 use Rattle.burr_plantext.proofs.Texts.Tests.{and_three}
 
 -- Forms over symbols
@@ -128,22 +128,13 @@ place_left live symbols places n next view own over e here =
 
 -- Lines of ranges
 
-pub slot_left : (slots : List (Option Range)) (n next : ℕ) (r : Option Range) → next ≡ suc n
-    → slice_get slots n ≡ Some r
-    → slots_text n (drop n slots) ≡ slot_text n r ++ slots_text next (drop next slots)
-slot_left slots n next None e here =
-    ap (slots_text n) (left_at slots n next None e here)
-    ∙ ap (λ (k : ℕ). slots_text k (drop next slots)) (sym e)
-slot_left slots n next (Some range) e here =
-    ap (slots_text n) (left_at slots n next (Some range) e here)
-    ∙ ap (λ (k : ℕ). slot_text n (Some range) ++ slots_text k (drop next slots)) (sym e)
-
 pub slot_passed : (slots : List (Option Range)) (n next : ℕ) (found : Option Range)
     (text whole : List ℕ) → next ≡ suc n → slice_get slots n ≡ Some found
     → ((range : Range) → found ≡ Some range → ⊥) → text ++ slots_text n (drop n slots) ≡ whole
     → text ++ slots_text next (drop next slots) ≡ whole
 slot_passed slots n next None text whole e here dead so =
-    ap (λ (t : List ℕ). text ++ t) (sym (slot_left slots n next None e here)) ∙ so
+    (λ i. text ++ slots_text (e i) (drop next slots))
+    ∙ ap (λ (left : List (Option Range)). text ++ slots_text n left) (sym (left_at slots n next None e here)) ∙ so
 slot_passed slots n next (Some range) text whole e here dead so = absurd (dead range refl)
 
 pub slot_turn : (slots : List (Option Range)) (n next : ℕ) (found : Option Range)
@@ -152,11 +143,11 @@ pub slot_turn : (slots : List (Option Range)) (n next : ℕ) (found : Option Ran
     → ((text ++ (codes "slot " ++ decimal n)) ++ range_text (codes " ") range)
     ++ slots_text next (drop next slots) ≡ whole
 slot_turn slots n next found range text whole e here is so =
-    let line : (text ++ (codes "slot " ++ decimal n)) ++ range_text (codes " ") range
-    ≡ text ++ slot_text n (Some range) = simp append_assoc in
-    ap (λ (t : List ℕ). t ++ slots_text next (drop next slots)) line
-    ∙ one_more text (slot_text n (Some range)) (slots_text next (drop next slots)) (slots_text n (drop n slots)) whole so
-    (slot_left slots n next (Some range) e (here ∙ ap (λ (r : Option Range). Some r) is))
+    let all : ((text ++ (codes "slot " ++ decimal n)) ++ range_text (codes " ") range) ++ slots_text (suc n) (drop next slots)
+    ≡ text ++ slots_text n (Some range ∷ drop next slots) = simp append_assoc in
+    (λ i. ((text ++ (codes "slot " ++ decimal n)) ++ range_text (codes " ") range) ++ slots_text (e i) (drop next slots)) ∙ all
+    ∙ ap (λ (left : List (Option Range)). text ++ slots_text n left)
+    (sym (left_at slots n next (Some range) e (here ∙ ap (λ (r : Option Range). Some r) is))) ∙ so
 
 pub result_left : (results : List Range) (n next : ℕ) (range : Range) → next ≡ suc n
     → slice_get results n ≡ Some range

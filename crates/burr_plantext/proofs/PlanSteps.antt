@@ -15,7 +15,7 @@ use Rattle.burr_container.specs.Views.Containers.{ContainerView, IsContainer, Ha
 use Rattle.burr_container.proofs.Common.Containers.{plan_fits}
 use Rattle.burr_plantext.proofs.FrameSteps.{all_at, first_symbols}
 use Rattle.burr_plantext.proofs.Steps.{got_at}
-use Rattle.burr_plantext.proofs.Texts.Tests.{and_five, and_three}
+use Rattle.burr_plantext.proofs.Texts.Tests.{and_five, and_four, and_three}
 use Rattle.burr_plantext.proofs.Texts.Exits.{most_by, results_most}
 use Rattle.burr_plantext.proofs.Texts.Frames.{fits_of}
 
@@ -48,31 +48,25 @@ of_plan kept i (p, fits, is) inside =
     let (q, here) = got_at p.procedures i (omega (arith, inside, many)) in
     record { plan = p; fits = fits; is = is; procedure = q; here = here }
 
--- a procedure within the format
-pub record FitsProcedure (version pieces : ℕ) (q : PlanProcedure) : Type 0 where
-  pub main : Bool
-  pub parameters : IsTrue (are_parameters main q.parameters)
-  pub results : IsTrue (are_results version main q.results)
-  pub exit : IsTrue (is_exit version main pieces q.parameters q.results q.exit)
-  pub labels : IsTrue (are_labels pieces (length q.code) q.labels)
-  pub code : IsTrue (is_code q.code)
-
-parts_of : (version pieces : ℕ) (main : Bool) (q : PlanProcedure)
-    → IsTrue (is_procedure version pieces main q) → FitsProcedure version pieces q
-parts_of version pieces main q h =
-    let tests = and_five h in
-    record { main = main; parameters = tests.0; results = tests.1; exit = tests.2; labels = tests.3; code = tests.4 }
+-- a procedure within the format: main, or another one
+abbrev pub FitsProcedure : ℕ → ℕ → PlanProcedure → Type 0
+FitsProcedure version pieces q =
+    (main : Bool) × IsTrue (are_parameters main q.parameters)
+    × IsTrue (are_results version main q.results)
+    × IsTrue (is_exit version main pieces q.parameters q.results q.exit)
+    × IsTrue (are_labels pieces (length q.code) q.labels) × IsTrue (is_code q.code)
 
 by_place : (version pieces : ℕ) (main : PlanProcedure) (others : List PlanProcedure) (i : ℕ)
     (q : PlanProcedure) → IsTrue (is_procedure version pieces true main)
     → IsTrue (list_all (is_procedure version pieces false) others)
     → slice_get (main ∷ others) i ≡ Some q → FitsProcedure version pieces q
 by_place version pieces main others zero q first rest here =
+    let tests = and_five first in
     subst (λ (q : PlanProcedure). FitsProcedure version pieces q) (same_Some main q here)
-    (parts_of version pieces true main first)
+    (true, tests.0, tests.1, tests.2, tests.3, tests.4)
 by_place version pieces main others (suc i) q first rest here =
-    parts_of version pieces false q
-    (all_at (is_procedure version pieces false) others i q rest here)
+    let tests = and_five (all_at (is_procedure version pieces false) others i q rest here) in
+    (false, tests.0, tests.1, tests.2, tests.3, tests.4)
 
 procedure_in : (version pieces : ℕ) (ps : List PlanProcedure) (i : ℕ) (q : PlanProcedure)
     → IsTrue (are_procedures version pieces ps) → slice_get ps i ≡ Some q
@@ -100,12 +94,10 @@ pub labels_fit : (pieces end : ℕ) (labels : List (ℕ × Frame))
     → IsTrue (are_labels pieces end labels) → FitsLabels pieces end labels
 labels_fit pieces end [] h = absurd (false≢true h)
 labels_fit pieces end (l ∷ labels) h =
-    let frames = list_all (λ (label : ℕ × Frame). is_frame pieces label.1) (l ∷ labels) in
-    let a = and_parts ((l.0 == 0) && rise_from 0 end (l ∷ labels) && nat_le (length (l ∷ labels)) MOST_LABELS) frames h in
-    let tests = and_three a.0 in
+    let tests = and_four h in
     record {
       rise = tests.1;
-      frames = a.1;
+      frames = tests.3;
       first = λ k here. ap (λ (m : ℕ × Frame). m.0) (sym (same_Some l k here)) ∙ eqb-true l.0 0 tests.0;
       some = omega arith;
     }
@@ -201,13 +193,13 @@ pub exit_of_procedure : (kept : ContainerView) (i : ℕ) (found : Option ExitRef
 exit_of_procedure kept i found exit has inside are e =
     let o = of_plan kept i has inside in
     let q = o.procedure in
-    let fits = procedure_fits o.plan i q o.fits o.here in
+    let (main, parameters, results, fits, labels, code) = procedure_fits o.plan i q o.fits o.here in
     let (f, same, is) = exit_same o.plan.pieces q.parameters q.results found exit q.exit (are o.plan q o.is o.here) e in
     let frame_fits =
-    exit_by o.plan.version fits.main o.plan.pieces q.parameters q.results f
-    (subst (λ (exit : Option ExitFrame). IsTrue (is_exit o.plan.version fits.main o.plan.pieces q.parameters q.results exit)) same fits.exit) in
-    let few = most_by fits.main q.parameters 4 fits.parameters in
-    let least = (results_most fits.main (o.plan.version == 2) q.results fits.results).0 in
+    exit_by o.plan.version main o.plan.pieces q.parameters q.results f
+    (subst (λ (exit : Option ExitFrame). IsTrue (is_exit o.plan.version main o.plan.pieces q.parameters q.results exit)) same fits) in
+    let few = most_by main q.parameters 4 parameters in
+    let least = (results_most main (o.plan.version == 2) q.results results).0 in
     subst (λ (live : List Bool). IsOverFirst live (exit_frame_of exit)) (sym is.live)
     (subst (λ (f : ExitFrame). IsOverFirst (exit_symbols q.parameters q.results) f) (sym is.frame)
     (exit_over o.plan.version o.plan.pieces q.parameters q.results f (omega (arith, few, least)) frame_fits))

@@ -14,7 +14,7 @@ use Rattle.burr_plantext.specs.Rules.Listing.{procedure_name, label_name, set_wo
 use Rattle.std.proofs.lemmas.Int.{ints}
 use Rattle.burr_code.specs.Instruction as code
 use Rattle.burr_container.specs.Rules.Fitting as fitting
-use Rattle.burr_plantext.proofs.Common.CodeSizes.{size_both}
+use Rattle.burr_plantext.proofs.Common.CodeSizes.{label_sizes, size_both}
 use Rattle.burr_plantext.proofs.Common.Numbers.{natural_back}
 use Rattle.burr_plantext.proofs.Texts.Sets.{below_decimal, set_back, set_rises}
 use Rattle.burr_plantext.proofs.Texts.Frames.{end_back, end_right, ends_right}
@@ -63,10 +63,6 @@ module _ (labels procedures : ℕ) (few_labels : labels ≤ 256) (few_procedures
     pub in_range : IsTrue (is_in_range s)
     pub known : names_unknown names callees s ≡ false
 
-  labels_length : (ns : List ℕ) (f g : List ℕ → ℕ) → length (label_bytes (map f (map label_name ns))) ≡ length (label_bytes (map g (map label_name ns)))
-  labels_length [] f g = refl
-  labels_length (n ∷ ns) f g = ap (λ (k : ℕ). suc (suc k)) (labels_length ns f g)
-
   line_of_instruction : (i : Instruction) → IsInRange i → IsTrue (has_names labels procedures i) → IsLineOf (instruction_listed i) (spelled i)
   line_of_instruction (code.Push n) h k = record { spells = ap (λ (n : ℤ). spelled (code.Push n)) (end_back n (end_test n h)); size = refl; in_range = end_right n (end_test n h); known = refl }
   line_of_instruction (code.Load slot) h k = record { spells = ap (λ (n : ℕ). spelled (code.Load n)) (natural_back slot (omega arith)); size = refl; in_range = below_decimal 8 slot h (omega arith); known = refl }
@@ -97,7 +93,7 @@ module _ (labels procedures : ℕ) (few_labels : labels ≤ 256) (few_procedures
       let back = labels_back offered k in
       record {
         spells = ap (λ (ns : List ℕ). spelled (code.Pick ns)) back;
-        size = ap (λ (n : ℕ). suc (suc n)) (labels_length offered (number_of []) (number_of names) ∙ ap (λ (ns : List ℕ). length (label_bytes ns)) back);
+        size = ap (λ (n : ℕ). suc (suc n)) (label_sizes (number_of []) (number_of names) (map label_name offered) ∙ ap (λ (ns : List ℕ). length (label_bytes ns)) back);
         in_range = refl;
         known = ap not (labels_known offered k);
       }

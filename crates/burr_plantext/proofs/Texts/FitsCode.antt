@@ -22,16 +22,12 @@ use Rattle.burr_code.specs.Instruction as code
 use Rattle.burr_plantext.specs.Rules.Statements as said
 use Rattle.burr_plantext.specs.Rules.Right.{is_frame, each_after, all_right, is_block}
 use Rattle.burr_container.specs.Rules.Fitting as fitting
-use Rattle.burr_plantext.proofs.Common.CodeSizes.{size_both, some_size}
+use Rattle.burr_plantext.proofs.Common.CodeSizes.{label_sizes, size_both, some_size}
 use Rattle.burr_plantext.proofs.Texts.Said.{is_said}
 use Rattle.burr_plantext.proofs.Texts.Fits.{each_all, few_all, below, frame_fits}
 use Rattle.burr_plantext.proofs.Texts.Tests.{and_four, unless_none, all_both}
 
 -- Sizes
-
-label_sizes : (f g : List ℕ → ℕ) (names : List (List ℕ)) → length (label_bytes (map f names)) ≡ length (label_bytes (map g names))
-label_sizes f g [] = refl
-label_sizes f g (n ∷ names) = ap (λ (k : ℕ). suc (suc k)) (label_sizes f g names)
 
 module _ (labels procedures : List (List ℕ)) where
   size_same : (s : Statement) → length (statement_bytes labels procedures s) ≡ length (statement_bytes [] [] s)
@@ -114,19 +110,8 @@ module _ (labels procedures : List (List ℕ)) (few : length procedures ≤ 16) 
 -- Blocks
 
 -- what is right of a block
-record Parts (pieces : ℕ) (before : List Block) (b : Block) : Type 0 where
-  name : IsTrue (is_none (label_check before b.label))
-  frame : IsTrue (is_frame pieces b.frame)
-  code : IsTrue (all_right (statement_check before) b.code)
-  some : IsTrue (has_code b)
-
-parts_of : (pieces : ℕ) (before : List Block) (b : Block) → IsTrue (is_block pieces before b) → Parts pieces before b
-parts_of pieces before b h =
-    let name = is_none (label_check before b.label) in
-    let frame = is_frame pieces b.frame in
-    let code = all_right (statement_check before) b.code in
-    let tests = and_four h in
-    record { name = tests.0; frame = tests.1; code = tests.2; some = tests.3 }
+parts_of : (pieces : ℕ) (before : List Block) (b : Block) → IsTrue (is_block pieces before b) → IsTrue (is_none (label_check before b.label)) × IsTrue (is_frame pieces b.frame) × IsTrue (all_right (statement_check before) b.code) × IsTrue (has_code b)
+parts_of pieces before b h = and_four h
 
 -- the limit holds up to the last line of code
 limit_last : (blocks : List Block) (before code : List Statement) → IsTrue (not (is_empty code)) → IsTrue (each_after (λ b s. is_none (statement_check blocks b s)) before code)
@@ -148,8 +133,8 @@ block_code_last blocks b =
 pub limit_blocks : (pieces : ℕ) (before blocks : List Block) → IsTrue (not (is_empty blocks)) → IsTrue (each_after (is_block pieces) before blocks) → code_size (block_code (before ++ blocks)) ≤ 4096
 limit_blocks pieces before [] some h = grind arith
 limit_blocks pieces before (b ∷ []) some h =
-    let p = parts_of pieces before b (and_parts (is_block pieces before b) true h).0 in
-    let few = limit_last before [] b.code p.some p.code in
+    let tests = parts_of pieces before b (and_parts (is_block pieces before b) true h).0 in
+    let few = limit_last before [] b.code tests.3 tests.2 in
     omega (arith, few, block_code_last before b)
 limit_blocks pieces before (b ∷ next ∷ blocks) some h =
     let more = limit_blocks pieces (before ++ b ∷ []) (next ∷ blocks) refl (and_parts (is_block pieces before b) (each_after (is_block pieces) (before ++ b ∷ []) (next ∷ blocks)) h).1 in
@@ -164,7 +149,7 @@ pub labels_rise : (pieces least start end : ℕ) (before blocks : List Block) �
 labels_rise pieces least start end before [] h low fits = refl
 labels_rise pieces least start end before (b ∷ blocks) h low fits =
     let parts = and_parts (is_block pieces before b) (each_after (is_block pieces) (before ++ b ∷ []) blocks) h in
-    let some = some_code b.code (parts_of pieces before b parts.0).some in
+    let some = some_code b.code (parts_of pieces before b parts.0).3 in
     let sum = total_more b blocks in
     and_from (nat_le least start && nat_lt start end) (rise_from (suc start) end (labels_in (start + code_size b.code) blocks))
     (and_from (nat_le least start) (nat_lt start end) (le-leb least start low) (lt-ltb start end (omega (arith, some, sum, fits))))
@@ -175,7 +160,7 @@ frames_fit pieces start before [] h = refl
 frames_fit pieces start before (b ∷ blocks) h =
     let parts = and_parts (is_block pieces before b) (each_after (is_block pieces) (before ++ b ∷ []) blocks) h in
     and_from (fitting.is_frame pieces (frame_in b.frame)) (list_all (λ (l : ℕ × Frame). fitting.is_frame pieces l.1) (labels_in (start + code_size b.code) blocks))
-    (frame_fits pieces b.frame (parts_of pieces before b parts.0).frame) (frames_fit pieces (start + code_size b.code) (before ++ b ∷ []) blocks parts.1)
+    (frame_fits pieces b.frame (parts_of pieces before b parts.0).1) (frames_fit pieces (start + code_size b.code) (before ++ b ∷ []) blocks parts.1)
 
 pub few_labels : (pieces : ℕ) (blocks : List Block) → IsTrue (each_after (is_block pieces) [] blocks) → length blocks ≤ 256
 few_labels pieces blocks h =
@@ -184,11 +169,10 @@ few_labels pieces blocks h =
   where
     room : (before : List Block) (b : Block) → IsTrue (is_block pieces before b) → length before < 256
     room before b k =
-        let p = parts_of pieces before b k in
         let new = not (is_known (label_names before) b.label) in
         let count = nat_lt (length before) MOST_LABELS in
         let coded = list_all has_code before in
-        ltb-true (length before) 256 (and_parts count coded (unless_none (count && coded) P4 None (unless_none new P2 (unless (count && coded) P4 None) p.name).1).0).0
+        ltb-true (length before) 256 (and_parts count coded (unless_none (count && coded) P4 None (unless_none new P2 (unless (count && coded) P4 None) (parts_of pieces before b k).0).1).0).0
 
 pub length_labels : (start : ℕ) (blocks : List Block) → length (labels_in start blocks) ≡ length blocks
 length_labels start [] = refl
@@ -201,5 +185,5 @@ ranges_of pieces before (b ∷ blocks) h =
     let parts = and_parts (is_block pieces before b) (each_after (is_block pieces) (before ++ b ∷ []) blocks) h in
     all_both is_in_range b.code (block_code blocks)
     (each_all (λ c s. is_none (statement_check before c s)) is_in_range
-    (λ c s k. (unless_none (is_in_range s) P3 (unless (nat_le (code_size (block_code before) + code_size (c ++ s ∷ [])) MOST_CODE) P4 None) k).0) [] b.code (parts_of pieces before b parts.0).code)
+    (λ c s k. (unless_none (is_in_range s) P3 (unless (nat_le (code_size (block_code before) + code_size (c ++ s ∷ [])) MOST_CODE) P4 None) k).0) [] b.code (parts_of pieces before b parts.0).2)
     (ranges_of pieces (before ++ b ∷ []) blocks parts.1)

@@ -226,9 +226,6 @@ pub record Fitting (pieces : ℕ) (f : Frame) : Type 0 where
 
 pub fits_of : (pieces : ℕ) (f : Frame) → IsTrue (fitting.is_frame pieces f) → Fitting pieces f
 fits_of pieces f h =
-    let live = live_slots f.slots in
-    let guards = are_forms MOST_GUARDS live f.guards in
-    let stack = are_forms MOST_OPERANDS live f.stack in
     let tests = and_four h in
     let rest = and_four tests.3 in
     record { tray = tests.0; grip = tests.1; slots = tests.2; guards = rest.0; stack = rest.1; cost = rest.2; places = rest.3 }

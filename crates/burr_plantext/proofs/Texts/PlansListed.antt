@@ -121,7 +121,6 @@ record HasLabels (pieces end : ℕ) (labels : List (ℕ × Frame)) : Type 0 wher
 has_labels : (pieces end : ℕ) (labels : List (ℕ × Frame)) → IsTrue (are_labels pieces end labels) → HasLabels pieces end labels
 has_labels pieces end [] h = grind arith
 has_labels pieces end (first ∷ more) h =
-    let frames = list_all (λ (l : ℕ × Frame). fitting.is_frame pieces l.1) (first ∷ more) in
     let tests = and_four h in
     let zero_first : first.0 ≡ 0 = eqb-true first.0 0 tests.0 in
     let r = and_parts (nat_le 0 first.0 && nat_lt first.0 end) (rise_from (suc first.0) end more) tests.1 in
