@@ -1,19 +1,31 @@
 -- The checks of a counter, one after the other, and what follows them.
-use Rattle.std.proofs.Common.{◌≡◌, inl, inr, arith}
-use Rattle.std.specs.Prelude.{ℕ, ◌<◌, length, slice_get, Some, Ok, Err}
-use Rattle.burr_forms.specs.Rules.Forms.{Form, one_less}
+use Rattle.std.proofs.Common.{◌≡◌, ◌≤◌, get_or, inl, inr, arith}
+use Rattle.std.specs.Prelude.{ℕ, ◌<◌, length, slice_get, Option, Some, None, Ok, Err, IfSome, IfOk}
+use Rattle.std.specs.Option.{ok_or}
+use Rattle.burr_forms.specs.Rules.Forms.{Form, one_less, IsSmallForm}
 use Rattle.burr_container.specs.Rules.Plans.{Frame}
 use Rattle.burr_frames.specs.declared.rule.Break.{Break}
+use Rattle.burr_frames.specs.declared.rule.Rule.TheVariants as rules
 use Rattle.burr_frames.specs.Rules.FramedPlans.{FramedProcedure}
 use Rattle.burr_frames.specs.Rules.States.{AbstractState}
 use Rattle.burr_frames.specs.Rules.Verdicts.{Broken, Verdict, Breaks, FallsThrough, Rest, falls_through, arriving}
 use Rattle.burr_frames.specs.Rules.ControlRules.{lowering, counting_down, counted_down, counted_out}
-use Rattle.burr_frames.specs.Views.Breaks.{broken_of, FindsCounter}
+use Rattle.burr_frames.specs.Views.Breaks.{broken_of, plain_break, FindsCounter}
 use Rattle.burr_frames.specs.Views.Changes.{at_cost}
 
 -- the state that has paid for a step
 abbrev pub paid_for : AbstractState → AbstractState
 paid_for s = at_cost (one_less s.cost) s
+
+-- what is known of the slot, or nothing
+pub known_or : (here : FramedProcedure) (s : AbstractState) (v : ℕ) (known : Option Form) (b : Break) → here.parameters ≤ v
+    → get_or s.slots v None ≡ known → broken_of b ≡ plain_break rules.EmptySlot → FindsCounter here s v (ok_or known b)
+known_or here s v None b own e is = inr (own, e, is)
+known_or here s v (Some f) b own e is = (own, e)
+
+pub small_or : (known : Option Form) (b : Break) → IfSome known IsSmallForm → IfOk (ok_or known b) IsSmallForm
+small_or None b small = small
+small_or (Some f) b small = small
 
 -- Lowering
 

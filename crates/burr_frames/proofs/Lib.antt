@@ -3,7 +3,6 @@ pub mod Arrivals
 pub mod After
 pub mod BenchOffsets
 pub mod CallArguments
-pub mod CallForms
 pub mod CallReturns
 pub mod CallVerdicts
 pub mod CalleesRead
@@ -19,7 +18,6 @@ pub mod LiveForms
 pub mod Meetings
 pub mod MoveVerdicts
 pub mod ShiftedPlaces
-pub mod Negatives
 pub mod Numbering
 pub mod Offsets
 pub mod OnePlace
@@ -31,7 +29,6 @@ pub mod Rooms
 pub mod SearchedPairs
 pub mod Settled
 pub mod SmallPlaces
-pub mod TopTwo
 pub mod TrayPairs
 pub mod TrayRows
 pub mod WholeLooks

@@ -1,30 +1,17 @@
 -- A parameter, nothing known, and a form.
-use Rattle.std.proofs.Common.{◌≡◌, ◌≤◌, ℕ, Option, Some, None, Result, inl, inr, sym, subst, get_or, arith}
-use Rattle.std.specs.Option.{ok_or}
-use Rattle.std.specs.Prelude.{IfSome, IfOk}
+use Rattle.std.proofs.Common.{◌≡◌, Result, inl, sym, subst, arith}
+use Rattle.std.specs.Prelude.{IfOk}
 use Rattle.burr_forms.specs.Rules.Forms.{Form, IsSmallForm}
 use Rattle.burr_frames.specs.declared.rule.Break.{Break}
-use Rattle.burr_frames.specs.declared.rule.Rule.TheVariants as rules
-use Rattle.burr_frames.specs.Rules.FramedPlans.{FramedProcedure}
-use Rattle.burr_frames.specs.Rules.States.{AbstractState}
-use Rattle.burr_frames.specs.Views.Breaks.{broken_of, plain_break, FindsCounter}
+use Rattle.burr_frames.specs.Views.Breaks.{FindsCounter}
 use Rattle.burr_frames.proofs.Common.Heres.{parameters_read}
+use Rattle.burr_frames.proofs.Counters.{known_or, small_or}
 use Rattle.burr_frames.proofs.state.State.counter.Goals as goal
 
 pub returns-then-slot-params-clause-counter : goal.returns-then-slot-params-clause-counter
 returns-then-slot-params-clause-counter c = λ p here is e.
     let parameters : here.parameters ≡ c.params.result = parameters_read c.args.procedure c.params.result c.params.ensures.plan p here is e in
     inl (λ no_parameter. absurd (omega (arith, no_parameter, parameters, c.if-slot-params.true)), c.plain.ensures)
-
--- what is known of the slot, or nothing
-known_or : (here : FramedProcedure) (s : AbstractState) (v : ℕ) (known : Option Form) (b : Break) → here.parameters ≤ v
-    → get_or s.slots v None ≡ known → broken_of b ≡ plain_break rules.EmptySlot → FindsCounter here s v (ok_or known b)
-known_or here s v None b own e is = inr (own, e, is)
-known_or here s v (Some f) b own e is = (own, e)
-
-small_or : (known : Option Form) (b : Break) → IfSome known IsSmallForm → IfOk (ok_or known b) IsSmallForm
-small_or None b small = small
-small_or (Some f) b small = small
 
 pub returns-clause-counter : goal.returns-clause-counter
 returns-clause-counter c = λ p here is e.

@@ -1,11 +1,13 @@
 -- The difference takes the place of the two operands.
-use Rattle.std.proofs.Common.{drop}
+use Rattle.std.proofs.Common.{drop, inr, subst}
+use Rattle.burr_forms.specs.Rules.Forms.{Form}
+use Rattle.burr_frames.specs.Rules.NumberRules.{result_rule}
 use Rattle.burr_frames.specs.Views.Breaks.{next_verdict}
-use Rattle.burr_frames.proofs.TopTwo.{difference_put}
 use Rattle.burr_frames.proofs.state.State.sub.Goals as goal
 
 pub returns-clause-verdict : goal.returns-clause-verdict
 returns-clause-verdict c =
     let s = c.args.self.now in
-    difference_put s _ _ c.in_ok-difference.difference (drop 2 s.operands) (next_verdict c.put_result.new.self c.put_result.result)
-    c.in_ok-upper.ensures.two.1 c.in_ok-difference.ensures.0 c.put_result.ensures.verdict
+    let v = next_verdict c.put_result.new.self c.put_result.result in
+    let put = subst (λ (form : Form). result_rule s form (drop 2 s.operands) v) c.in_ok-difference.ensures.0 c.put_result.ensures.verdict in
+    inr (_, c.in_ok-upper.ensures.two.1, put)
