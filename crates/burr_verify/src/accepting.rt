@@ -52,8 +52,7 @@ pub fn accept<'a, 'c: 'a, B: Blocking>(
         → Judging (B.subject blocking.entry.now).name (homes_of (B.subject blocking.entry.now))
         (framed_plan p) (Refuses (failed_check refusal))) }
 {
-    let (accepted, _looks) = accept_counted(container, blocking)?;
-    Ok(accepted)
+    Ok(accept_counted(container, blocking)?.0)
 }
 
 /// Accepts as `accept` does, and tells how many looks at the pieces the judgement took, as

@@ -42,7 +42,6 @@ mod passing;
 mod point_state;
 mod refusal;
 mod states;
-mod transfer;
 
 pub use accepting::{Accepted, accept, accept_counted};
 pub use judging::{verify, verify_counted};

@@ -17,8 +17,7 @@ ghost use Rattle.burr_verify.specs.Views.Judgements.{judgement_of, ArrivesIfAny}
 
 use crate::laws::an_assembly_has_few_pieces;
 use crate::refusal::Refusal;
-use crate::states::label_within;
-use crate::transfer::{Successor, transfer};
+use crate::states::{Successor, label_within, transfer};
 use burr_blocking::{Blocking, Looks};
 use burr_code::fetch;
 use burr_container::{FrameRef, ProcedureRef};

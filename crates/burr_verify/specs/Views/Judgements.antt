@@ -7,8 +7,8 @@ use Rattle.burr_frames.specs.Views.Breaks.{broken_of}
 use Rattle.burr_frames.specs.Rules.Verdicts.{Verdict, Breaks, FallsThrough, NoSuccessor, arriving, no_successor}
 use Rattle.burr_frames.specs.declared.rule.Break.{Break}
 use Rattle.burr_verify.specs.declared.refusal.Refusal.{Refusal}
-use Rattle.burr_verify.specs.declared.transfer.Successor.{Successor}
-use Rattle.burr_verify.specs.declared.transfer.Successor.TheVariants as successors
+use Rattle.burr_verify.specs.declared.states.Successor.{Successor}
+use Rattle.burr_verify.specs.declared.states.Successor.TheVariants as successors
 use Rattle.burr_verify.specs.Rules.Judging.{Rest, passes}
 use Rattle.burr_verify.specs.Rules.Judging.{nothing}
 use Rattle.burr_verify.specs.Rules.Pass.{Judgement, Passed, Refuses, FailedCheck}

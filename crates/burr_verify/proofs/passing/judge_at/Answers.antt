@@ -17,7 +17,7 @@ use Rattle.burr_frames.specs.Rules.States.{AbstractState}
 use Rattle.burr_frames.specs.Rules.Transfer.{Transfer}
 use Rattle.burr_frames.proofs.Common.Room.{room_kept}
 use Rattle.burr_frames.proofs.Common.RuleLooks.{few_rule_looks}
-use Rattle.burr_verify.specs.declared.transfer.Successor.{Successor}
+use Rattle.burr_verify.specs.declared.states.Successor.{Successor}
 use Rattle.burr_verify.specs.Rules.Pass.{lacks_instruction, hides, breaks}
 use Rattle.burr_verify.specs.Views.LookViews.{HasRoomBefore}
 use Rattle.burr_verify.specs.Views.Judgements.{verdict_of}

@@ -8,17 +8,17 @@ use Rattle.burr_frames.specs.Rules.Transfer.{Transfer}
 use Rattle.burr_verify.proofs.Stages.{code_read}
 use Rattle.burr_verify.proofs.states.state_after.Goals as goal
 
-pub returns-in_default : goal.returns-in_default
-returns-in_default c = λ p here kept at homes out goes.
+pub returns-in_err-instruction : goal.returns-in_err-instruction
+returns-in_err-instruction c = λ p here kept at homes out goes.
     (let code = code_read c.args.procedure.container.now c.args.procedure.number c.code.result.now c.code.ensures.plan p here kept at in
-    let none = subst (λ (bytes : List ℕ). NoneStandsAt bytes c.from.result) code c.in_default.ensures.stands in
+    let none = subst (λ (bytes : List ℕ). NoneStandsAt bytes c.from.result) code c.in_err-instruction.ensures.stands in
     absurd (subst (λ (n : ℕ). NoneStandsAt here.code n) c.from.ensures none goes.1 goes.4))
 
 pub returns : goal.returns
 returns c = λ p here kept at homes out goes.
     (let code = code_read c.args.procedure.container.now c.args.procedure.number c.code.result.now c.code.ensures.plan p here kept at in
-    let i = meaning c.in-Some.instruction in
-    let read = subst (λ (bytes : List ℕ). StandsAt bytes c.from.result i) code c.in-Some.ensures.stands.0 in
+    let i = meaning c.in_ok-instruction.instruction in
+    let read = subst (λ (bytes : List ℕ). StandsAt bytes c.from.result i) code c.in_ok-instruction.ensures.stands.0 in
     let stands = subst (λ (n : ℕ). StandsAt here.code n i) c.from.ensures read in
     let same = one_stands_at here.code c.args.pc goes.1 i goes.4 stands in
     let rule = subst (λ (j : Instruction). Transfer homes (framed_plan p) c.args.procedure.number here goes.0 j goes.2) same goes.5 in

@@ -17,24 +17,24 @@ pub loop-at-preserved : goal.loop-at-preserved
 loop-at-preserved c = λ p here kept at homes rows out passes.
     (let code = code_read c.args.procedure.container.now c.args.procedure.number c.code.result.now c.code.ensures.plan p here kept at in
     let left = c.loop-at.invariant p here kept at homes rows out passes in
-    let i = c.in-Some.instruction in
-    let stands = subst (λ (bytes : List ℕ). StandsAt bytes c.loop-at.at (meaning i)) code c.in-Some.ensures.stands.0 in
+    let i = c.in_ok-instruction.instruction in
+    let stands = subst (λ (bytes : List ℕ). StandsAt bytes c.loop-at.at (meaning i)) code c.in_ok-instruction.ensures.stands.0 in
     let on = goes_on homes (framed_plan p) c.args.procedure.number here c.loop-at.at c.loop-at.state left.0 c.args.pc out i
     (omega (arith, c.loop-at-test.true, c.from.ensures)) stands left.1 in
     let before = c.enter.ensures p here kept at on.state on.enters in
     let next = c.go_over.ensures p here kept at homes on.state on.verdict on.next before on.rule on.falls in
-    let size = c.in-Some.ensures.stands.1 in (
+    let size = c.in_ok-instruction.ensures.stands.1 in (
       on.rows,
-      subst (λ (o : Option AbstractState). PassesTo homes (framed_plan p) c.args.procedure.number here (c.loop-at.at + c.in-Some.size) o on.rows c.args.pc out) (sym next)
+      subst (λ (o : Option AbstractState). PassesTo homes (framed_plan p) c.args.procedure.number here (c.loop-at.at + c.in_ok-instruction.size) o on.rows c.args.pc out) (sym next)
           (subst (λ (n : ℕ). PassesTo homes (framed_plan p) c.args.procedure.number here (c.loop-at.at + n) on.next on.rows c.args.pc out) (sym size) on.passes),
     ))
 
-pub returns-in_default : goal.returns-in_default
-returns-in_default c = λ p here kept at homes s comes.
+pub returns-in_err-instruction : goal.returns-in_err-instruction
+returns-in_err-instruction c = λ p here kept at homes s comes.
     (let code = code_read c.args.procedure.container.now c.args.procedure.number c.code.result.now c.code.ensures.plan p here kept at in
     let left = c.loop-at.invariant p here kept at homes comes.0 comes.1 comes.2 in
     absurd (stands_there homes (framed_plan p) c.args.procedure.number here c.loop-at.at c.loop-at.state left.0 c.args.pc comes.1
-    (omega (arith, c.loop-at-test.true, c.from.ensures)) left.1 (subst (λ (bytes : List ℕ). NoneStandsAt bytes c.loop-at.at) code c.in_default.ensures.stands)))
+    (omega (arith, c.loop-at-test.true, c.from.ensures)) left.1 (subst (λ (bytes : List ℕ). NoneStandsAt bytes c.loop-at.at) code c.in_err-instruction.ensures.stands)))
 
 pub returns : goal.returns
 returns c = λ p here kept at homes s comes.

@@ -13,7 +13,7 @@ use Rattle.burr_frames.specs.Views.Breaks.{next_verdict}
 use Rattle.burr_frames.specs.Rules.Looks.{RuleLooks}
 use Rattle.burr_verify.specs.Views.Judgements.{verdict_of}
 use Rattle.burr_verify.proofs.Transfers.{by_rule, in_place, no_look}
-use Rattle.burr_verify.proofs.transfer.transfer.Goals as goal
+use Rattle.burr_verify.proofs.states.transfer.Goals as goal
 
 -- the looks of the rule that was judged are those of the instruction that was given
 looks_like : (homes : List (List Cell)) (s : AbstractState) (given told : Instr) (old new : Counted) → given ≡ told

@@ -4,7 +4,7 @@ use Rattle.burr_frames.specs.Rules.FramedPlans.{framed_plan}
 use Rattle.burr_frames.specs.Views.Breaks.{next_verdict, last_verdict}
 use Rattle.burr_verify.specs.Views.Judgements.{verdict_of}
 use Rattle.burr_verify.proofs.Transfers.{by_rule}
-use Rattle.burr_verify.proofs.transfer.transfer_in_place.Goals as goal
+use Rattle.burr_verify.proofs.states.transfer_in_place.Goals as goal
 
 pub returns-in-Add : goal.returns-in-Add
 returns-in-Add c homes p here kept at =

@@ -7,7 +7,7 @@ use Rattle.burr_frames.specs.Rules.Transfer.{Transfer}
 use Rattle.burr_frames.proofs.Common.FineVerdicts.{free_of_aside, free_of_step, one_free_aside, one_free_step}
 use Rattle.burr_frames.proofs.Common.Unique.{one_verdict}
 use Rattle.burr_verify.proofs.Transfers.{fine}
-use Rattle.burr_verify.proofs.transfer.transfer_freely.Goals as goal
+use Rattle.burr_verify.proofs.states.transfer_freely.Goals as goal
 
 pub returns-in-Step : goal.returns-in-Step
 returns-in-Step c p here kept at homes verdict rule none =
