@@ -13,7 +13,10 @@ pub type Added = Result<(), AllocError>;
 pub fn add_number<Number: Integer>(text: &mut Vec<u8>, before: &[u8], number: Number) -> Added
     ensures { OnOk result (text.new.items ≡ text.old.items ++ (before.now ++ Number.text number)) }
 {
-    text.extend_from_slice(before)?;
+    match before {
+        [byte] => text.push(*byte)?,
+        _ => text.extend_from_slice(before)?,
+    }
     text.extend_from_slice(Buffer::new().format(number).as_bytes())
 }
 
@@ -21,7 +24,8 @@ pub fn add_number<Number: Integer>(text: &mut Vec<u8>, before: &[u8], number: Nu
 pub fn end_line(text: &mut Vec<u8>) -> Added
     ensures { OnOk result (text.new.items ≡ text.old.items ++ 10 ∷ []) }
 {
-    text.extend_from_slice(b"\n")
+    text.push(b'\n')?;
+    Ok(())
 }
 
 /// Adds bytes, and then a set of pieces: `-`, or the rising numbers of its pieces joined by `,`.
