@@ -11,8 +11,9 @@
 //!   - `pair` finds once what queries of two pieces read; `pair_blocked` and `pair_free` ask by it,
 //!     with the answers of `blocked` and `free`.
 //! - `PlainCells` compares cells, `CellTables` reads tables, and `RowTables` reads rows of bits.
-//!   `CellTables::build`, `RowTables::build` and `RowTables::owning` answer for the assembly that
-//!   they were given; they take memory, and answer `AllocError` where that is refused.
+//!   `CellTables::build`, `CellTables::owning`, `RowTables::build` and `RowTables::owning` answer
+//!   for the assembly that they were given; they take memory, and answer `AllocError` where that is
+//!   refused.
 //! - A table has at most 31 values a side: this is an invariant of a private type, and in no public
 //!   contract. The same holds of `RowTables`, which keep a row of bits in place of each row of
 //!   values.

@@ -1,5 +1,5 @@
 -- Cells near the origin, and their sums.
-use Rattle.std.proofs.Common.{ℕ, ◌<◌, ◌≤◌, ◌^◌, arith, FitsSigned, w32}
+use Rattle.std.proofs.Common.{ℕ, ◌<◌, ◌^◌, arith, FitsSigned, w32}
 use Rattle.std.specs.Prelude.{ℤ, pos, negsuc, neg_ℤ, ◌≤ℤ◌}
 use Rattle.std.proofs.lemmas.Int.{ints}
 use Rattle.burr_voxels.specs.declared.cell.Cell.{Cell}

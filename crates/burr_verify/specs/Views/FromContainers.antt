@@ -19,17 +19,6 @@ pub record IsFromContainer (plan : FramedPlan) : Type 0 where
   pub main : (here : FramedProcedure) → slice_get plan.procedures 0 ≡ Some here → here.exit ≡ None
   pub budget : plan.budget < 2 ^ 64 - 1
 
--- each frame of a procedure has a place for each of this many pieces
-pub record HasPlaces (pieces : ℕ) (here : FramedProcedure) : Type 0 where
-  pub labels : (pc : ℕ) (f : Frame) → IsLabelled here pc f → length f.places ≡ pieces
-  pub exit : (f : FramedExit) → here.exit ≡ Some f → length f.places ≡ pieces
-
--- each frame of a plan has a place for each of the plan's pieces
-abbrev pub AllHavePlaces : FramedPlan → Type 0
-AllHavePlaces plan =
-    (n : ℕ) (here : FramedProcedure) → slice_get plan.procedures n ≡ Some here
-    → HasPlaces plan.pieces here
-
 -- there are 1 to 16 procedures, each with a label, and all but main with an exit frame
 pub record HasProcedures (plan : FramedPlan) : Type 0 where
   pub some : 1 ≤ length plan.procedures
