@@ -14,6 +14,7 @@ pub fn add_number<Number: Integer>(text: &mut Vec<u8>, before: &[u8], number: Nu
     ensures { OnOk result (text.new.items ≡ text.old.items ++ (before.now ++ Number.text number)) }
 {
     match before {
+        [] => {}
         [byte] => text.push(*byte)?,
         _ => text.extend_from_slice(before)?,
     }
