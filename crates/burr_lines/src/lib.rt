@@ -2,16 +2,21 @@
 //! them, texts that tell of lines, and texts that have something in place of `auto`.
 //!
 //! # Promised
-//! - `Unframed::of` takes a plan text as it is. What its `with` and `with_blanks` give is that text,
-//!   but any lines may stand in place of a line that ends by the word `auto` (`IsFilledIn`).
+//! - `Unframed::of` takes a plan text as it is. Something is due in a line `auto` after the line that opens
+//!   a procedure or a label, where nothing but empty lines and comments stand between, and in a line that
+//!   starts by `plan` and ends by the word `auto` (`IsDueAfter`). `has_auto_at` tells where, and `parts` gives
+//!   the lines, with something due in just these (`IsMadeOf`).
+//! - `with` puts each text that it is given in place of the line of its place, where something is due there,
+//!   and keeps all else (`IsFilledBy`). So what it and `with_blanks` give is the plan text, but any lines may
+//!   stand in place of a line that ends by the word `auto` (`IsFilledIn`).
 //! - Beyond that it promises nothing but safety. Lines are looked up in `source_map` of burr_asm.
 //!   Memory is taken by `lines_of`, by `PlanLines::of` and `with`, by `Report::into_text`, and by `of`,
 //!   `with`, `with_blanks` and `parts_of` of `Unframed`; they answer `AllocError` where it is refused.
 //!
 //! # Tested only
-//! - No contract says what a line says (`PlanLines`, `lines_of`, `numbered_line`), where frames are due
-//!   and which say nothing (`Unframed`), what a plan has at a place of its code (`PlanText`), or what is
-//!   added to a text (`Shown`, `Report`).
+//! - No contract says what a line says (`PlanLines`, `lines_of`, `numbered_line`), which procedure or label
+//!   a frame is due of, and which frames say nothing (`Unframed`), what a plan has at a place of its code
+//!   (`PlanText`), or what is added to a text (`Shown`, `Report`).
 #![tactic(auto)]
 
 mod lines;

@@ -1,8 +1,9 @@
 //! A plan text in which `auto` stands in place of frames, and texts that have something in its place.
 
-ghost use Rattle.std.specs.Prelude.{◌≡◌, ◌++◌, Contains, codes, IfOk, IfSome};
-ghost use Rattle.burr_lines.specs.FilledTexts.{EndsByAuto, IsFilledIn};
-ghost use Rattle.burr_lines.specs.Parts.{AddsFor, IsDue};
+ghost use Rattle.std.specs.Prelude.{◌≡◌, ◌↔◌, ◌++◌, ◌∷◌, ℕ, List, IfOk, IsSome, IsTrue};
+ghost use Rattle.std.specs.Option.{option_copied};
+ghost use Rattle.burr_lines.specs.FilledTexts.{IsFilledIn};
+ghost use Rattle.burr_lines.specs.Parts.{BeginsBy, FrameIsDue, HasAutoAt, IsDueAfter, IsFilledBy, IsMadeOf, OpensFrame, in_place, line_of, own_line};
 
 use crate::lines::Line;
 use crate::plan_text::{Report, Shown};
@@ -40,9 +41,10 @@ impl Part<'_> {
         text.add_words(format_args!("{front}{budget}\n"));
     }
 
-    /// Adds the line, or what is put in its place where something is due.
+    /// Adds the line, or what is given for it where something is due.
     fn add_to(&self, fill: Option<&Option<String>>, made: &mut Vec<u8>) -> Result<(), AllocError>
-        ensures { IfOk result (λ _done. AddsFor self.now made.old.items made.new.items) }
+        ensures { IfOk result (λ _done. made.new.items
+            ≡ made.old.items ++ in_place (own_line self.now) self.now.due (option_copied fill.entry)) }
     {
         if self.due.is_some() {
             if let Some(Some(fill)) = fill {
@@ -80,8 +82,9 @@ struct Heading {
 impl Heading {
     /// What the next line is.
     fn part_of<'a>(&mut self, line: &'a [u8]) -> Part<'a>
-        ensures due { ¬ Contains line.now 10 → IsDue result }
         ensures own { result.line.now ≡ line.now }
+        ensures due { (before : List (List ℕ)) → (IsSome self.old.due ↔ FrameIsDue before)
+            → (IsSome result.due ↔ IsDueAfter before (line_of result)) × (IsSome self.new.due ↔ FrameIsDue (line_of result ∷ before)) }
     {
         Part {
             line,
@@ -91,45 +94,56 @@ impl Heading {
 
     /// What is due where the next line ends by `auto`.
     fn due_at(&mut self, line: &[u8]) -> Option<Due>
-        ensures { ¬ Contains line.now 10 → IfSome result (λ _due. EndsByAuto (line.now ++ codes "\n")) }
+        ensures { (before : List (List ℕ)) → (IsSome self.old.due ↔ FrameIsDue before)
+            → (IsSome result ↔ IsDueAfter before line.now) × (IsSome self.new.due ↔ FrameIsDue (line.now ∷ before)) }
     {
-        if line == AUTO {
-            if let Some(due) = self.due.take() {
-                return Some(due);
-            }
+        if line.is_empty() || line.starts_with(b";") {
+            return None;
         }
-        self.go_over(line);
+        let due = self.due.take();
+        self.due = self.opened_by(line);
+        if line == AUTO {
+            return due;
+        }
         if line.starts_with(b"plan") && line.ends_with(b" auto") {
             return Some(Due::Budget);
         }
         None
     }
 
-    /// Goes over a line in which no frame is left out.
-    fn go_over(&mut self, line: &[u8]) {
-        if line.is_empty() || line.starts_with(b";") {
-            return;
-        }
-        self.due = None;
-        let line = Line {
+    /// The frame that is due after a line that opens one.
+    fn opened_by(&mut self, line: &[u8]) -> Option<Due>
+        ensures { IsSome result ↔ OpensFrame line.now }
+    {
+        let told = Line {
             number: 0,
             bytes: line,
         };
-        match line.word(0) {
-            b"plan" | b"plan2" => self.pieces = usize::from(line.number_in(2)),
-            b"proc" => {
-                self.due = Some(Due::Exit {
-                    procedure: self.procedures,
-                    results: usize::from(line.number_in(3)),
-                });
-                self.procedures = self.procedures.saturating_add(1);
-            }
-            b"label" => {
-                self.due = Some(Due::Label(self.labels));
-                self.labels = self.labels.saturating_add(1);
-            }
-            _ => {}
+        if begins_by(line, b"proc") {
+            let procedure = self.procedures;
+            self.procedures = procedure.saturating_add(1);
+            let results = usize::from(told.number_in(3));
+            return Some(Due::Exit { procedure, results });
         }
+        if begins_by(line, b"label") {
+            let label = self.labels;
+            self.labels = label.saturating_add(1);
+            return Some(Due::Label(label));
+        }
+        if begins_by(line, b"plan") || begins_by(line, b"plan2") {
+            self.pieces = usize::from(told.number_in(2));
+        }
+        None
+    }
+}
+
+/// Whether a word is the first of a line.
+fn begins_by(line: &[u8], word: &[u8]) -> bool
+    ensures { IsTrue result ↔ BeginsBy word.now line.now }
+{
+    match line.strip_prefix(word) {
+        Some(rest) => rest.is_empty() || rest[0] == b' ',
+        None => false,
     }
 }
 
@@ -147,17 +161,14 @@ pub struct Unframed<'a> {
 }
 
 impl<'a> Model for Unframed<'a> {
-    ghost use Rattle.std.specs.Prelude.{◌≡◌, ◌++◌, ℕ, List, All};
-    ghost use Rattle.std.specs.List.{flat_map};
-    ghost use Rattle.burr_lines.specs.Parts.{IsDue, own_line};
+    ghost use Rattle.std.specs.Prelude.{ℕ, List};
+    ghost use Rattle.burr_lines.specs.Parts.{IsMadeOf};
 
     ghost Value = { List ℕ };
 
     ghost view = { λ u. u.text.now };
 
-    ghost invariant = { λ u.
-        (u.text.now ≡ flat_map own_line u.parts.items ++ u.rest.now)
-        × All IsDue u.parts.items };
+    ghost invariant = { λ u. IsMadeOf u.text.now u.parts.items u.rest.now };
 }
 
 impl<'a> Unframed<'a> {
@@ -182,12 +193,16 @@ impl<'a> Unframed<'a> {
     }
 
     /// Its lines up to the last line feed.
-    pub fn parts(&self) -> &[Part<'a>] {
+    pub fn parts(&self) -> &[Part<'a>]
+        ensures { (rest : List ℕ) × IsMadeOf self.now result.now rest }
+    {
         &self.parts
     }
 
     /// Whether `auto` stands in the line of this number, counted from 1.
-    pub fn has_auto_at(&self, number: usize) -> bool {
+    pub fn has_auto_at(&self, number: usize) -> bool
+        ensures { HasAutoAt self.now number result }
+    {
         match self.parts.get(number.saturating_sub(1)) {
             Some(part) => part.due.is_some(),
             None => false,
@@ -197,7 +212,8 @@ impl<'a> Unframed<'a> {
     /// The text with these in place of its lines, one for each. A line stays where none is given, and
     /// where nothing is due.
     pub fn with(&self, fills: &[Option<String>]) -> Result<Vec<u8>, AllocError>
-        ensures { IfOk result (λ made. IsFilledIn self.now made.items) }
+        ensures put { IfOk result (λ made. IsFilledBy self.now fills.now made.items) }
+        ensures kept { IfOk result (λ made. IsFilledIn self.now made.items) }
     {
         let mut made = Vec::new(self.alloc);
         for (n, part) in self.parts.iter().enumerate() {

@@ -1,12 +1,11 @@
-use Rattle.std.proofs.Common.{arith, rules, ◌<◌, length}
-use Rattle.burr_lines.proofs.FilledTexts.{finished, passes}
+use Rattle.std.proofs.Common.{◌++◌, ℕ, List, subst, ap, ◌∙◌, arith}
+use Rattle.burr_lines.specs.Parts.{IsMadeOf}
+use Rattle.burr_lines.proofs.Parts.{all_put, filled_in}
 use Rattle.burr_lines.proofs.unframed.Unframed.with.Goals as goal
 
-pub loop-n-preserved : goal.loop-n-preserved
-loop-n-preserved c =
-    let within : c.loop-n.n < length c.deref-part-items.result.now = search rules in
-    passes _ _ _ _ _ _ _ _ c.deref-part-items.ensures.value within c.self.invariant.1 (c.in_ok-add_to.ensures) c.loop-n.invariant
-
-pub returns : goal.returns
-returns c =
-    finished _ _ _ _ c.self.inside.parts.items c.loop-n.n (omega arith) c.loop-n.invariant (c.in_ok-extend_from_slice.ensures.items)
+pub returns-clause-kept : goal.returns-clause-kept
+returns-clause-kept c =
+    let parts = c.self.inside.parts.items in
+    let rest = c.self.inside.rest.now in
+    let put = all_put parts c.args.fills.now c.loop-n.made.items c.loop-n.n (omega arith) c.loop-n.invariant in
+    filled_in _ _ c.args.fills.now (parts, rest, subst (λ (text : List ℕ). IsMadeOf text parts rest) c.self.view_is c.self.invariant, c.in_ok-extend_from_slice.ensures.items ∙ ap (λ (m : List ℕ). m ++ rest) put)
