@@ -17,13 +17,12 @@ LEAST, LINE_BELOW, OWN_LINE, EACH_JOB = 600_000_000, 40_000, 400_000, 0.6
 LONG, PRESSING_JOBS = 0.9, 2
 # the processor seconds that a crate's proof takes, as the gate measured them, and for each line of src where that is not known
 SECONDS = {
-    "burr_asm": 650, "burr_container": 500, "burr_frames": 445, "burr_program": 450, "burr_assembly": 380, "burr_trace": 320,
-    "burr_state": 305, "burr_why": 475, "burr_blocking": 260, "burr_judge": 330, "burr_runs": 235, "burr": 230,
-    "burr_command": 200, "burr_verify": 185, "burr_forms": 185, "burr_step": 160,
-    "burr_bench": 185, "burr_sheet": 155, "burr_code": 145, "burr_from_sheet": 145,
-    "burr_explain": 115, "burr_lines": 150, "burr_io": 110, "burr_voxels": 90, "burr_text": 60, "burr_plantext": 220,
+    "burr_why": 444, "burr_program": 436, "burr_asm": 342, "burr_trace": 324, "burr_judge": 277, "burr_frames": 274,
+    "burr_container": 269, "burr_c": 220, "burr_assembly": 216, "burr_state": 195, "burr_from_sheet": 173, "burr_blocking": 165,
+    "burr_runs": 141, "burr_step": 136, "burr_verify": 125, "burr_plantext": 111, "burr": 105, "burr_lines": 104,
+    "burr_code": 101, "burr_bench": 95,
 }
-SECONDS_A_LINE = 0.2
+SECONDS_A_LINE = 0.1
 
 
 class Crate:
