@@ -1,2 +1,3 @@
 pub mod FilledTexts
 pub mod Parts
+pub mod TextLines

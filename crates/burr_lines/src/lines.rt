@@ -1,5 +1,9 @@
 //! The lines of a plan text, each with what it says.
 
+ghost use Rattle.std.specs.Prelude.{◌≡◌, ◌-◌, [], IfOk, IfSome, get_or, map, option_map, slice_get};
+ghost use Rattle.std.specs.List.{enumerate_from};
+ghost use Rattle.burr_lines.specs.TextLines.{bytes_of, text_lines, told, words_of};
+
 use burr_asm::{PlanPart, source_map};
 use burr_text::{cut_at, integer};
 use std::alloc::{AllocError, Global};
@@ -77,12 +81,20 @@ pub struct Line<'a> {
 
 impl<'a> Line<'a> {
     /// A word, counted from 0; nothing where there are fewer.
-    pub fn word(&self, place: usize) -> &'a [u8] {
+    pub fn word(&self, place: usize) -> &'a [u8]
+        ensures { result.now ≡ get_or (words_of self.now.bytes.now) place [] }
+    {
         let mut rest = self.bytes;
         for _ in 0..place {
-            rest = cut_at(rest, b' ').map_or(b"", |(_, after)| after);
+            match cut_at(rest, b' ') {
+                Some((_, after)) => rest = after,
+                None => return b"",
+            }
         }
-        cut_at(rest, b' ').map_or(rest, |(before, _)| before)
+        match cut_at(rest, b' ') {
+            Some((word, _)) => word,
+            None => rest,
+        }
     }
 
     /// The number that a word tells; 0 where it tells none of 0 to 255.
@@ -93,24 +105,45 @@ impl<'a> Line<'a> {
 }
 
 /// The lines of a text. What follows the last line feed is one too, where something does.
-pub fn lines_of(alloc: Global, text: &[u8]) -> Result<Vec<Line<'_>>, AllocError> {
+pub fn lines_of(alloc: Global, text: &[u8]) -> Result<Vec<Line<'_>>, AllocError>
+    ensures { IfOk result (λ lines. map told lines.items ≡ enumerate_from 1 (text_lines text.now)) }
+{
     let mut lines = Vec::new(alloc);
-    for (place, bytes) in text.split(|byte| *byte == b'\n').enumerate() {
-        let number = place.saturating_add(1);
+    let mut rest = text;
+    let mut number: usize = 1;
+    while let Some((bytes, more)) = cut_at(rest, b'\n') {
         lines.push(Line { number, bytes })?;
+        number = number.saturating_add(1);
+        rest = more;
     }
-    if text.is_empty() || text.ends_with(b"\n") {
-        lines.pop();
+    if rest.is_empty() {
+        return Ok(lines);
     }
+    let bytes = rest;
+    lines.push(Line { number, bytes })?;
     Ok(lines)
 }
 
-/// The line of this number; none where the text ends before it.
-pub fn numbered_line(text: &[u8], number: usize) -> Option<Line<'_>> {
-    let mut lines = text.split(|byte| *byte == b'\n');
-    let bytes = lines.nth(number.saturating_sub(1))?;
-    let is_there = !bytes.is_empty() || lines.next().is_some();
-    is_there.then_some(Line { number, bytes })
+/// The line of this number, counted from 1; none where the text ends before it.
+pub fn numbered_line(text: &[u8], number: usize) -> Option<Line<'_>>
+    ensures bytes { option_map bytes_of result ≡ slice_get (text_lines text.now) (number - 1) }
+    ensures number { IfSome result (λ line. line.number ≡ number) }
+{
+    let mut rest = text;
+    for _ in 1..number {
+        match cut_at(rest, b'\n') {
+            Some((_, more)) => rest = more,
+            None => return None,
+        }
+    }
+    match cut_at(rest, b'\n') {
+        Some((bytes, _)) => Some(Line { number, bytes }),
+        None if rest.is_empty() => None,
+        None => Some(Line {
+            number,
+            bytes: rest,
+        }),
+    }
 }
 
 /// The lines of a plan text that is assembled to a container, by what they say.
