@@ -1,12 +1,19 @@
 -- The lines of a text, one by one.
-use Rattle.std.proofs.Common.{◌≡◌, ◌≢◌, ◌≤◌, ◌<◌, ◌==◌, ◌-◌, ◌+◌, ◌++◌, ◌∷◌, ℕ, zero, suc, List, [], Bool, true, false, Option, Some, None, Contains, if◌then◌else◌, length, get_or, map, slice_get, refl, sym, ap, ◌∙◌, append_assoc, append-nil, arith}
+use Rattle.std.proofs.Common.{◌≡◌, ◌≢◌, ◌≤◌, ◌<◌, ◌==◌, ◌-◌, ◌+◌, ◌++◌, ◌∷◌, ℕ, zero, suc, List, [], Bool, true, false, Option, Some, None, Contains, if◌then◌else◌, length, get_or, map, slice_get, inl, inr, refl, sym, ap, ◌∙◌, append_assoc, append-nil, arith}
+use Rattle.std.specs.Prelude.{ℤ, pos, negsuc, nat_abs, Result, Ok, Err, unwrap_or, FitsSigned}
 use Rattle.std.specs.List.{enumerate_from}
+use Rattle.std.specs.Fmt.{signed_decimal}
+use Rattle.std.specs.Int.{w32, FitsUnsignedBits}
+use Rattle.std.specs.Result.{OkIff, result_unwrap_or}
+use Rattle.std.proofs.lemmas.Fmt.{signed_decimal_injective}
 use Rattle.std.proofs.lemmas.Bool.Decides.{nat_tests}
 use Rattle.std.proofs.lemmas.List.{length-append, map-append}
+use lib.Signed.{mag}
 use Rattle.burr_text.proofs.Common.Cuts.{Lacks, lacks}
+use Rattle.burr_text.specs.Numbers.{IsInteger}
 use Rattle.burr_text.specs.Words.{IsCutAt}
 use Rattle.burr_lines.specs.declared.lines.Line.{Line}
-use Rattle.burr_lines.specs.TextLines.{onto_first, text_lines, told, words_of}
+use Rattle.burr_lines.specs.TextLines.{onto_first, text_lines, told, words_of, TellsNumber}
 
 goes_on : (byte : ℕ) (text : List ℕ) → byte ≢ 10 → text_lines (byte ∷ text) ≡ onto_first byte (text_lines text)
 goes_on byte text other = ap (λ (ends : Bool). if ends then [] ∷ text_lines text else onto_first byte (text_lines text)) apart
@@ -131,3 +138,26 @@ pub told_all : (before : List Line) (rest : List ℕ) (all : List (ℕ × List �
     → map told before ++ enumerate_from (length before + 1) (text_lines rest) ≡ all → map told before ≡ all
 told_all before [] all none so_far = sym (append-nil (map told before)) ∙ so_far
 told_all before (byte ∷ rest) all none so_far = absurd (grind (arith, nat_tests))
+
+-- What a word tells, by what comes of it as a number of 32 bits and as one of 8.
+pub tells : {E : Type 0} (word : List ℕ) (found : Option ℤ) (z : ℤ) (tried : Result ℕ E) → IsInteger word found → z ≡ unwrap_or found (pos 0) → mag z < 2147483648
+    → OkIff tried (FitsUnsignedBits 8 z) (nat_abs z) → TellsNumber word (result_unwrap_or tried 0)
+tells word None z (Ok number) none is small (fits, same) = inr (λ other within. none (pos other) (omega (arith, within)), same ∙ ap nat_abs is)
+tells word None z (Err e) none is small fits = inr (λ other within. none (pos other) (omega (arith, within)), refl)
+tells word (Some n) (pos k) (Ok number) told is small (fits, same) = inl (told ∙ ap signed_decimal (sym is ∙ ap pos (sym same)), omega (arith, fits, same))
+tells word (Some n) (pos k) (Err e) told is small unfit = inr (λ other within same. unfit (apart other within same), refl)
+  where
+    apart : (other : ℕ) → other ≤ 255 → word ≡ signed_decimal (pos other) → k < 256
+    apart other within same =
+        let one : k ≡ other = ap nat_abs (signed_decimal_injective (pos k) (pos other) (omega (arith, small)) (omega (arith, within)) (ap signed_decimal is ∙ (sym told ∙ same))) in
+        omega (arith, one, within)
+tells word (Some n) (negsuc k) (Ok number) told is small (fits, same) = absurd fits
+tells word (Some n) (negsuc k) (Err e) told is small unfit = inr (λ other within same. apart (signed_decimal_injective (negsuc k) (pos other) (omega (arith, small)) (omega (arith, within)) (ap signed_decimal is ∙ (sym told ∙ same))), refl)
+  where
+    apart : {other : ℕ} → negsuc k ≡ pos other → ⊥
+    apart e = cc
+
+-- a number of 32 bits fits them
+pub fits : (z : ℤ) → mag z < 2147483648 → FitsSigned w32 z
+fits (pos n) small = omega (arith, small)
+fits (negsuc n) small = omega (arith, small)

@@ -1,5 +1,6 @@
 -- The lines of a text, and the words of a line.
-use Rattle.std.specs.Prelude.{ℕ, List, [], ◌∷◌, ◌==◌, if◌then◌else◌}
+use Rattle.std.specs.Prelude.{◌≡◌, ◌≢◌, ◌≤◌, ◌⊎◌, ℕ, pos, List, [], ◌∷◌, ◌==◌, if◌then◌else◌}
+use Rattle.std.specs.Fmt.{signed_decimal}
 use Rattle.burr_lines.specs.declared.lines.Line.{Line}
 
 -- a byte before the first of these, or alone where there are none
@@ -23,3 +24,9 @@ told line = (line.number, line.bytes.now)
 abbrev pub words_of : List ℕ → List (List ℕ)
 words_of [] = [] ∷ []
 words_of (byte ∷ line) = if byte == 32 then [] ∷ words_of line else onto_first byte (words_of line)
+
+-- the number of 0 to 255 that a word tells, or 0 where it tells none
+abbrev pub TellsNumber : List ℕ → ℕ → Type 0
+TellsNumber word answer =
+    ((word ≡ signed_decimal (pos answer)) × (answer ≤ 255))
+    ⊎ (((number : ℕ) → number ≤ 255 → word ≢ signed_decimal (pos number)) × (answer ≡ 0))

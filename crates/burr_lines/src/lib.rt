@@ -2,8 +2,9 @@
 //! them, texts that tell of lines, and texts that have something in place of `auto`.
 //!
 //! # Promised
-//! - `lines_of` gives the lines of a text with their numbers from 1 on, `numbered_line` one of them, and `word`
-//!   of `Line` one of its words, as `specs/TextLines.antt` has lines and words.
+//! - `lines_of` gives the lines of a text with their numbers from 1 on, `numbered_line` one of them, `word` of
+//!   `Line` one of its words, and `number_in` the number of 0 to 255 that a word tells, or 0 where it tells
+//!   none, as `specs/TextLines.antt` has lines and words.
 //! - `Unframed::of` takes a plan text as it is. Something is due in a line `auto` after the line that opens
 //!   a procedure or a label, where nothing but empty lines and comments stand between, and in a line that
 //!   starts by `plan` and ends by the word `auto` (`IsDueAfter`). `has_auto_at` tells where, and `parts` gives
@@ -16,9 +17,9 @@
 //!   `with`, `with_blanks` and `parts_of` of `Unframed`; they answer `AllocError` where it is refused.
 //!
 //! # Tested only
-//! - No contract says which line says what (`PlanLines`), the number that a word tells (`number_in` of
-//!   `Line`), the procedure or label that a due frame belongs to, and which frames say nothing (`Unframed`),
-//!   what a plan has at a place of its code (`PlanText`), or what is added to a text (`Shown`, `Report`).
+//! - No contract says which line says what (`PlanLines`), the procedure or label that a due frame belongs to,
+//!   and which frames say nothing (`Unframed`), what a plan has at a place of its code (`PlanText`), or what is
+//!   added to a text (`Shown`, `Report`).
 #![tactic(auto)]
 
 mod lines;

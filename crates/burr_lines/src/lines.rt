@@ -2,7 +2,7 @@
 
 ghost use Rattle.std.specs.Prelude.{◌≡◌, ◌-◌, [], IfOk, IfSome, get_or, map, option_map, slice_get};
 ghost use Rattle.std.specs.List.{enumerate_from};
-ghost use Rattle.burr_lines.specs.TextLines.{bytes_of, text_lines, told, words_of};
+ghost use Rattle.burr_lines.specs.TextLines.{TellsNumber, bytes_of, text_lines, told, words_of};
 
 use burr_asm::{PlanPart, source_map};
 use burr_text::{cut_at, integer};
@@ -98,7 +98,9 @@ impl<'a> Line<'a> {
     }
 
     /// The number that a word tells; 0 where it tells none of 0 to 255.
-    pub fn number_in(&self, place: usize) -> u8 {
+    pub fn number_in(&self, place: usize) -> u8
+        ensures { TellsNumber (get_or (words_of self.now.bytes.now) place []) result }
+    {
         let number = integer(self.word(place)).unwrap_or(0);
         u8::try_from(number).unwrap_or(0)
     }
