@@ -1,2 +1,2 @@
-pub mod Results
+pub mod Comes
 pub mod Stages

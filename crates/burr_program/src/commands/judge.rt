@@ -6,36 +6,32 @@ ghost use Rattle.burr_io.specs.WholeLines.{lines_view};
 ghost use Rattle.burr_runs.specs.Views.BenchText.{streams};
 ghost use Rattle.burr_judge.specs.PlanEnds.{never};
 ghost use Rattle.burr_judge.specs.StepEnds.{left_by};
-ghost use Rattle.burr_judge.specs.Stops.{ResultOn};
-ghost use Rattle.burr_program.specs.Commands.{CommandResult, FileResult, JudgeDone};
-ghost use Rattle.burr_program.specs.ListEnds.{IsPair, JudgeCommand, JudgeCommandBreaks, LineEnds, PairEnds, judged_line, max_status as max_of};
+ghost use Rattle.burr_program.specs.Commands.{EndsOnFiles};
+ghost use Rattle.burr_program.specs.ListEnds.{IsPair, JudgeCommand, JudgeCommandBreaks, LineEnds, PairEnds, judged_line, worse as worse_of};
 ghost use Rattle.burr_program.specs.Judging.{TellsJudged, bytes_of};
 
-use crate::done::Done;
 use crate::files::read_file;
 use burr_io::{Kept, Sink, Source, WholeLines, WriteFault, put_all, put_number};
 use burr_judge::{
-    Commanded, Fault, KEPT, LineEnd, PlanInput, ReadText, Status, StepFault, Stop, answer_commands,
-    report,
+    Commanded, Fault, Given, KEPT, LineEnd, ReadText, Status, StepFault, answer_commands,
 };
 use burr_text::cut_at;
 use std::marker::Model;
 use std::rt::Files;
 
-/// Judges the plans of a list: each line of the source names an assembly's text and a plan, a container or
-/// a text, with a byte between them. It is answered by its number, a status and what `check` would print,
-/// before the next line is read. Returns the greatest status of a line.
+/// Judges the plans of the source's list: each line names an assembly's text and a plan, a container
+/// or a plan text, with a byte between them, and is answered by its number, a status and what `check`
+/// would print, which is handed on before the next line is read. The status is the worst of theirs.
 #[inline(never)]
-pub fn judge<'a, F: Files + AllocGlobal, R: Source, W: Sink, const N: usize>(
+pub fn judge_list<'a, F: Files + AllocGlobal, R: Source, W: Sink, const N: usize>(
     files: &F,
     end: LineEnd,
     separator: u8,
     source: &mut R,
     sink: &mut WholeLines<W, N>,
-) -> Result<Done<'a>, Stop<'a>>
+) -> Result<Status, Fault<'a>>
     requires fresh { sink.old.held ≡ [] }
-    ensures { CommandResult (lines_view W.Sink) sink.old sink.new
-        (JudgeDone end separator (left_by R.Source source.old source.new))
+    ensures { EndsOnFiles (lines_view W.Sink) sink.old sink.new
         (JudgeCommand end separator (left_by R.Source source.old source.new))
         (JudgeCommandBreaks end separator
         (streams R.Source source.old source.new W.Sink sink.old.sink sink.new.sink)) result }
@@ -45,18 +41,13 @@ pub fn judge<'a, F: Files + AllocGlobal, R: Source, W: Sink, const N: usize>(
         separator,
         known: None,
         count: 0,
-        status: Status::Done,
+        worst: Status::Done,
     };
     answer_commands(end, &mut judge, source, sink)?;
-    Ok(Done {
-        status: judge.status,
-        assembly: None,
-        source: None,
-        written: None,
-    })
+    Ok(judge.worst)
 }
 
-/// Judges the lines of a list, and counts them.
+/// What judges the lines of a list, and counts them.
 #[derive(Drop)]
 struct ListJudge<'f, F: Files + AllocGlobal> {
     files: &'f F,
@@ -65,8 +56,7 @@ struct ListJudge<'f, F: Files + AllocGlobal> {
     /// The assembly of the line before.
     known: Option<Known>,
     count: u64,
-    /// The greatest status of a line.
-    status: Status,
+    worst: Status,
 }
 
 impl<'f, F: Files + AllocGlobal> Model for ListJudge<'f, F> {
@@ -77,7 +67,7 @@ impl<'f, F: Files + AllocGlobal> Model for ListJudge<'f, F> {
     ghost view = { λ judge. record {
       separator = judge.separator;
       count = judge.count;
-      status = judge.status;
+      worst = judge.worst;
     } };
 }
 
@@ -107,7 +97,7 @@ impl<'f, F: Files + AllocGlobal> ListJudge<'f, F> {
         ensures { TellsJudged W.Sink sink.old sink.new self.old status said.now result self.new }
     {
         self.count = self.count.saturating_add(1);
-        self.status = max_status(self.status, status);
+        self.worst = worse(self.worst, status);
         put_judged(self.count, status, said, sink)?;
         Ok(true)
     }
@@ -145,8 +135,7 @@ fn judge_line<F: Files + AllocGlobal>(
         return (Status::Refused, Said::Instead(b"refused pair\n"));
     };
     let mut said = Kept::new(files.alloc());
-    let done = judge_pair(files, known, assembly, plan, &mut said);
-    match report(done, &mut said) {
+    match judge_pair(files, known, assembly, plan, &mut said) {
         Ok(status) => (status, Said::Printed(said.into_bytes())),
         Err(Fault::Read(_)) => (Status::Failed, Said::Instead(b"cannot read\n")),
         Err(_) => (Status::Memory, Said::Instead(b"no memory\n")),
@@ -160,8 +149,8 @@ fn judge_pair<'a, F: Files + AllocGlobal, W: Sink>(
     assembly: &'a str,
     plan: &'a str,
     sink: &mut W,
-) -> Result<Status, Stop<'a>>
-    ensures { FileResult W.Sink sink.old sink.new PairEnds result }
+) -> Result<Status, Fault<'a>>
+    ensures { EndsOnFiles W.Sink sink.old sink.new PairEnds never result }
 {
     let kept = read_once(files, known.take(), assembly)?;
     let judged = kept.judge(files, plan, sink);
@@ -183,12 +172,11 @@ impl Known {
         files: &F,
         plan: &'a str,
         sink: &mut W,
-    ) -> Result<Status, Stop<'a>>
-        ensures { FileResult W.Sink sink.old sink.new PairEnds result }
+    ) -> Result<Status, Fault<'a>>
+        ensures { EndsOnFiles W.Sink sink.old sink.new PairEnds never result }
     {
-        let source = read_file(files, plan)?;
-        self.text
-            .check(files.alloc(), PlanInput::of(source.bytes()), sink)
+        let bytes = read_file(files, plan)?;
+        self.text.check(files.alloc(), Given::of(&bytes), sink)
     }
 }
 
@@ -203,7 +191,7 @@ fn read_once<'a, F: Files + AllocGlobal>(
             return Ok(kept);
         }
     }
-    let text = ReadText::new(files.alloc(), read_file(files, name)?.into_bytes())?;
+    let text = ReadText::new(files.alloc(), read_file(files, name)?)?;
     let name = Vec::from_slice(files.alloc(), name.as_bytes())?;
     Ok(Known { name, text })
 }
@@ -223,8 +211,8 @@ fn pair_of(separator: u8, line: &[u8]) -> Option<(&str, &str)>
 }
 
 /// The status of the greater number.
-fn max_status(a: Status, b: Status) -> Status
-    ensures { result ≡ max_of a b }
+fn worse(a: Status, b: Status) -> Status
+    ensures { result ≡ worse_of a b }
 {
     if a.code() < b.code() { b } else { a }
 }
