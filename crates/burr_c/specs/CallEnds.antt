@@ -2,7 +2,7 @@
 use Rattle.std.specs.Prelude.{◌≡◌, ℕ, List, Some}
 use Rattle.burr_judge.specs.PlanEnds.{Ends, PlanTextEnds}
 use Rattle.burr_judge.specs.StepEnds.{Left, StepTextEnds}
-use Rattle.burr_judge.specs.declared.refused.Status.TheVariants.{Done}
+use Rattle.burr_judge.specs.declared.status.Status.TheVariants.{Done}
 
 -- lines of commands are given: as a source of them ends, which is read up to `quit` or to its end
 abbrev pub StepsEnd : List ℕ → List ℕ → List ℕ → Ends

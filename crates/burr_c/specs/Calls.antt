@@ -1,8 +1,8 @@
 -- What a call leaves with its caller.
 use Rattle.std.specs.Prelude.{◌≡◌, ◌⊎◌, ◌<◌, ℕ, List, [], ◌++◌, length, take, drop}
 use Rattle.burr_runs.specs.declared.input.TheConstants.{LIMIT}
-use Rattle.burr_judge.specs.declared.refused.Status.{Status}
-use Rattle.burr_judge.specs.declared.refused.Status.TheVariants.{Failed, Memory}
+use Rattle.burr_judge.specs.declared.status.Status.{Status}
+use Rattle.burr_judge.specs.declared.status.Status.TheVariants.{Failed, Memory}
 use Rattle.burr_judge.specs.Statuses.{code_of}
 use Rattle.burr_judge.specs.PlanEnds.{Ends}
 

@@ -63,12 +63,6 @@ abbrev pub halted : Halt → Came
 halted (Asks question) = Waiting
 halted (Ends steps) = Ended
 
--- a run of the accepted plan is open, and the call returns 0; or none is, and it returns another number
-abbrev pub OpensAs : Beginnings KeptRun → List ℕ → List ℕ → ℕ → Option KeptRun → Type 0
-OpensAs Begins text bytes code run =
-    ((code ≡ code_of Done) × IsOpened Begins text bytes run)
-    ⊎ ((code ≢ code_of Done) × (run ≡ None))
-
 -- a drive has begun
 abbrev pub DriveBegins : Beginnings KeptRun
 DriveBegins j (Drive d) = IsReady j d

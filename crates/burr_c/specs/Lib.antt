@@ -3,5 +3,7 @@ pub mod CallEnds
 pub mod Calls
 pub mod DriveCalls
 pub mod Keeps
+pub mod OpenCalls
+pub mod Printing
 pub mod Statuses
 pub mod StepCalls

@@ -1,6 +1,6 @@
 -- The status that goes with a fault.
-use Rattle.burr_judge.specs.declared.refused.Status.{Status}
-use Rattle.burr_judge.specs.declared.refused.Status.TheVariants as statuses
+use Rattle.burr_judge.specs.declared.status.Status.{Status}
+use Rattle.burr_judge.specs.declared.status.Status.TheVariants as statuses
 use Rattle.burr_c.specs.declared.printed.CallFault.{CallFault}
 use Rattle.burr_c.specs.declared.printed.CallFault.TheVariants as faults
 

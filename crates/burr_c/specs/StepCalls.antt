@@ -1,7 +1,7 @@
 -- What the calls of a stepper that a program in C keeps come to.
 use Rattle.std.specs.Prelude.{◌≡◌, ◌⊎◌, ℕ, List, [], Bool, Option, None, Some}
 use Rattle.burr_step.specs.Views.Stepping.{Stepping, IsFresh}
-use Rattle.burr_judge.specs.declared.refused.Status.TheVariants as statuses
+use Rattle.burr_judge.specs.declared.status.Status.TheVariants as statuses
 use Rattle.burr_judge.specs.OpenEnds.{Beginnings}
 use Rattle.burr_judge.specs.Views.Commanding.{IsAnswerLine, StepAnswers}
 use Rattle.burr_c.specs.declared.handle.KeptRun.{KeptRun}

@@ -3,10 +3,11 @@
 
 ghost use Rattle.std.specs.Prelude.{◌≡◌, ◌↔◌, None, IfErr, IfOk};
 ghost use Rattle.burr_judge.specs.DriveEnds.{ReadyEnds};
-ghost use Rattle.burr_judge.specs.OpenEnds.{OpenEnds, Opens};
+ghost use Rattle.burr_judge.specs.OpenEnds.{OpenEnds};
 ghost use Rattle.burr_c.specs.declared.printed.CallFault.TheVariants.{TooLong};
 ghost use Rattle.burr_c.specs.Calls.{IsEitherTooLong, Returns, call};
-ghost use Rattle.burr_c.specs.DriveCalls.{AnswerComes, DriveBegins, GoComes, NextComes, OpensAs, told, code_of, halted, told_halt, told_move};
+ghost use Rattle.burr_c.specs.OpenCalls.{Opens, OpensAs};
+ghost use Rattle.burr_c.specs.DriveCalls.{AnswerComes, DriveBegins, GoComes, NextComes, told, code_of, halted, told_halt, told_move};
 
 use crate::handle::{Handle, KeptRun};
 use crate::printed::{CallFault, Printed, give, print_ready};
@@ -45,7 +46,7 @@ fn open(
     ensures ok { IfOk result (λ printed. OpenEnds (ReadyEnds text.now container.now) text.now
         container.now printed.bytes.items printed.status) }
     ensures opens { IfOk result (λ printed.
-        Opens DriveBegins text.now container.now printed.status None run.new.value) }
+        Opens DriveBegins text.now container.now printed.status run.new.value) }
     ensures none { IfErr result (λ _. run.new.value ≡ None) }
     ensures short { IfOk result (λ _. ¬ IsEitherTooLong text.now container.now) }
     ensures long { IfErr result (λ fault.

@@ -1,13 +1,16 @@
 //! What there is to print for a call, kept in memory.
 
-ghost use Rattle.std.specs.Prelude.{◌≡◌, ◌↔◌, IfOk, IfErr, IsTrue, None, ◌++◌, [], length, take, drop};
+ghost use Rattle.std.specs.Prelude.{◌≡◌, ◌≢◌, ◌↔◌, IfOk, IfErr, IsTrue, ◌++◌, [], length, take, drop};
 ghost use Rattle.burr_c.specs.declared.printed.CallFault.TheVariants.{Memory, TooLong};
 ghost use Rattle.burr_c.specs.CallEnds.{AssemblingEnds, StepsEnd};
 ghost use Rattle.burr_c.specs.Calls.{IsTooLong, IsEitherTooLong, IsAnyTooLong, call, Gives};
 ghost use Rattle.burr_step.specs.Views.Driving.{IsReady};
 ghost use Rattle.burr_judge.specs.DriveEnds.{ReadyEnds};
-ghost use Rattle.burr_judge.specs.OpenEnds.{NothingEnds, OpenEnds, Opens};
-ghost use Rattle.burr_judge.specs.declared.refused.Status.TheVariants.{Done};
+ghost use Rattle.burr_judge.specs.OpenEnds.{OpenEnds};
+ghost use Rattle.burr_asm.specs.declared.fault.AsmFault.TheVariants as asm;
+ghost use Rattle.burr_c.specs.OpenCalls.{NothingEnds, Opens};
+ghost use Rattle.burr_c.specs.Printing.{HoldsAll};
+ghost use Rattle.burr_judge.specs.declared.status.Status.TheVariants.{Done};
 ghost use Rattle.burr_step.specs.Views.Stepping.{IsFresh};
 ghost use Rattle.burr_c.specs.StepCalls.{AnswersWith, LosesAnswer};
 ghost use Rattle.burr_judge.specs.PlanEnds.{IsRefusal, PlanEnds};
@@ -17,7 +20,7 @@ ghost use Rattle.burr_c.specs.Statuses.{status_of_fault};
 use burr_asm::{AsmFault, assemble};
 use burr_io::{Kept, Reading, WholeLines, WriteFault};
 use burr_judge::{
-    KeptStepper, Refused, Status, StepFault, Task, judge_text, open_drive, open_stepper, refuse,
+    KeptStepper, Status, StepFault, Stop, Task, judge_text, open_drive, open_stepper, report,
     step_text,
 };
 use burr_runs::LIMIT;
@@ -113,7 +116,8 @@ pub fn print_judgement(
         return Err(CallFault::TooLong);
     }
     let mut kept = Kept::new(alloc);
-    let status = judge_text(alloc, task, text, container, answers, &mut kept)?;
+    let done = judge_text(alloc, task, text, container, answers, &mut kept);
+    let status = report(done, &mut kept)?;
     Ok(Printed {
         bytes: kept.into_bytes(),
         status,
@@ -140,12 +144,9 @@ pub fn print_steps(
     }
     let mut source = Reading::new(commands);
     let mut sink: WholeLines<_, HELD> = WholeLines::new(Kept::new(alloc));
-    let status = step_text(alloc, text, container, &mut source, &mut sink)?;
-    sink.flush()?;
-    Ok(Printed {
-        bytes: sink.into_sink().into_bytes(),
-        status,
-    })
+    let done = step_text(alloc, text, container, &mut source, &mut sink);
+    let status = report(done, &mut sink)?;
+    Ok(print_lines(status, sink)?)
 }
 
 /// A drive of a container's plan for an assembly's text, where the plan is accepted, and what `drive`
@@ -159,7 +160,7 @@ pub fn print_ready(
     ensures ok { IfOk result (λ ready. OpenEnds (ReadyEnds text.now container.now) text.now
         container.now ready.0.bytes.items ready.0.status) }
     ensures opens { IfOk result (λ ready.
-        Opens IsReady text.now container.now ready.0.status None ready.1) }
+        Opens IsReady text.now container.now ready.0.status ready.1) }
     ensures short { IfOk result (λ _. ¬ IsEitherTooLong text.now container.now) }
     ensures long { IfErr result (λ fault.
         fault ≡ TooLong ↔ IsEitherTooLong text.now container.now) }
@@ -167,15 +168,26 @@ pub fn print_ready(
     if is_too_long(text) || is_too_long(container) {
         return Err(CallFault::TooLong);
     }
-    let mut drive = None;
     let mut lines: WholeLines<_, HELD> = WholeLines::new(Kept::new(alloc));
-    let status = open_drive(alloc, text, container, &mut drive, &mut lines)?;
+    match open_drive(alloc, text, container, &mut lines) {
+        Ok(drive) => Ok((print_lines(Status::Done, lines)?, Some(drive))),
+        Err(stop) => {
+            let status = report(Err(stop), &mut lines)?;
+            Ok((print_lines(status, lines)?, None))
+        }
+    }
+}
+
+/// Flushes what is held back, and returns all that was written, with a status.
+fn print_lines(status: Status, mut lines: WholeLines<Kept, HELD>) -> Result<Printed, WriteFault>
+    ensures ok { IfOk result (λ printed. HoldsAll lines printed.bytes.items) }
+    ensures status { IfOk result (λ printed. printed.status ≡ status) }
+{
     lines.flush()?;
-    let printed = Printed {
+    Ok(Printed {
         bytes: lines.into_sink().into_bytes(),
         status,
-    };
-    Ok((printed, drive))
+    })
 }
 
 /// A stepper of a container's plan for an assembly's text, where the plan is accepted, and nothing
@@ -189,7 +201,7 @@ pub fn print_opening(
     ensures ok { IfOk result (λ opened.
         OpenEnds NothingEnds text.now container.now opened.0.bytes.items opened.0.status) }
     ensures opens { IfOk result (λ opened.
-        Opens IsFresh text.now container.now opened.0.status None opened.1) }
+        Opens IsFresh text.now container.now opened.0.status opened.1) }
     ensures short { IfOk result (λ _. ¬ IsEitherTooLong text.now container.now) }
     ensures long { IfErr result (λ fault.
         fault ≡ TooLong ↔ IsEitherTooLong text.now container.now) }
@@ -197,14 +209,24 @@ pub fn print_opening(
     if is_too_long(text) || is_too_long(container) {
         return Err(CallFault::TooLong);
     }
-    let mut stepper = None;
     let mut kept = Kept::new(alloc);
-    let status = open_stepper(alloc, text, container, &mut stepper, &mut kept)?;
-    let printed = Printed {
-        bytes: kept.into_bytes(),
-        status,
-    };
-    Ok((printed, stepper))
+    match open_stepper(alloc, text, container) {
+        Ok(stepper) => {
+            let printed = Printed {
+                bytes: kept.into_bytes(),
+                status: Status::Done,
+            };
+            Ok((printed, Some(stepper)))
+        }
+        Err(stop) => {
+            let status = report(Err(stop), &mut kept)?;
+            let printed = Printed {
+                bytes: kept.into_bytes(),
+                status,
+            };
+            Ok((printed, None))
+        }
+    }
 }
 
 /// What a stepper answers to a line of a command, with `Done`. `Memory` where a request for memory was
@@ -244,7 +266,6 @@ pub fn print_assembled(alloc: Global, text: &[u8]) -> Result<Printed, CallFault>
             bytes,
             status: Status::Done,
         }),
-        Err(AsmFault::Memory) => Err(CallFault::Memory),
         Err(fault) => print_text_refusal(alloc, fault),
     }
 }
@@ -253,10 +274,11 @@ pub fn print_assembled(alloc: Global, text: &[u8]) -> Result<Printed, CallFault>
 fn print_text_refusal(alloc: Global, fault: AsmFault) -> Result<Printed, CallFault>
     ensures ok { IfOk result (λ printed.
         IsRefusal (plan_text_refusal fault) printed.bytes.items printed.status) }
+    ensures some { IfOk result (λ _. fault ≢ asm.Memory) }
     ensures memory { IfErr result (λ fault. fault ≡ Memory) }
 {
     let mut kept = Kept::new(alloc);
-    let status = refuse(&Refused::PlanText(fault), &mut kept)?;
+    let status = report(Err(Stop::from(fault)), &mut kept)?;
     Ok(Printed {
         bytes: kept.into_bytes(),
         status,

@@ -2,10 +2,10 @@
 //! call to call: nothing is read or judged again.
 
 ghost use Rattle.std.specs.Prelude.{◌≡◌, ◌↔◌, None, IfErr, IfOk};
-ghost use Rattle.burr_judge.specs.OpenEnds.{NothingEnds, OpenEnds, Opens};
+ghost use Rattle.burr_judge.specs.OpenEnds.{OpenEnds};
 ghost use Rattle.burr_c.specs.declared.printed.CallFault.TheVariants.{TooLong};
 ghost use Rattle.burr_c.specs.Calls.{IsEitherTooLong, Returns, call};
-ghost use Rattle.burr_c.specs.DriveCalls.{OpensAs};
+ghost use Rattle.burr_c.specs.OpenCalls.{NothingEnds, Opens, OpensAs};
 ghost use Rattle.burr_c.specs.StepCalls.{CommandComes, StepperBegins};
 
 use crate::drive::Came;
@@ -44,7 +44,7 @@ fn open(
     ensures ok { IfOk result (λ printed. OpenEnds NothingEnds text.now container.now
         printed.bytes.items printed.status) }
     ensures opens { IfOk result (λ printed.
-        Opens StepperBegins text.now container.now printed.status None run.new.value) }
+        Opens StepperBegins text.now container.now printed.status run.new.value) }
     ensures none { IfErr result (λ _. run.new.value ≡ None) }
     ensures short { IfOk result (λ _. ¬ IsEitherTooLong text.now container.now) }
     ensures long { IfErr result (λ fault.

@@ -1,2 +1,2 @@
-pub mod Comes
+pub mod Results
 pub mod Stages

@@ -1,11 +1,9 @@
 mod Dialogues
 mod DriveAnswers
 mod DriveLaws
+pub mod Dialogued
 mod KeptSteps
 mod MoveWords
-mod Opening
-mod SteppedPlans
 pub mod CommandAnswers
 pub mod CommandLines
 pub mod Common
-pub mod Ending

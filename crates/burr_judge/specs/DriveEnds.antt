@@ -7,9 +7,9 @@ use Rattle.sha2.specs.Sha256.{sha256}
 use Rattle.burr_text.specs.Words.{text_line}
 use Rattle.burr_io.specs.Sink.{SinkView, HoldsFront}
 use Rattle.burr_io.specs.WholeLines.{Lines}
-use Rattle.burr_assembly.specs.Rules.Text.{Assembly, IsText}
+use Rattle.burr_assembly.specs.Rules.Text.{Assembly}
 use Rattle.burr_container.specs.Views.Containers.{ContainerView}
-use Rattle.burr_verify.specs.Rules.Accepting.{Judged, judged, IsAccepted}
+use Rattle.burr_verify.specs.Rules.Accepting.{Judged}
 use Rattle.burr_state.specs.Views.Benches.{setup_of}
 use Rattle.burr_step.specs.Rules.Stepper.{IsAsking}
 use Rattle.burr_step.specs.Views.Driving.{Driving, IsReady}
@@ -17,15 +17,12 @@ use Rattle.burr_runs.specs.declared.input.BenchFault.{BenchFault}
 use Rattle.burr_runs.specs.Views.BenchText.{Streams}
 use Rattle.burr_judge.specs.Views.Dialogues.{IsDialogue, BreaksDialogue}
 use Rattle.burr_judge.specs.Views.DriveLines.{DriveAnswers, AsksNone}
-use Rattle.burr_judge.specs.declared.ladder.Given.{Given}
-use Rattle.burr_judge.specs.declared.ladder.Given.TheVariants as given
+use Rattle.burr_judge.specs.declared.plan_input.PlanInput.{PlanInput}
 use Rattle.burr_judge.specs.declared.dialogue.LineEnd.TheVariants.{LineFeed}
-use Rattle.burr_judge.specs.declared.refused.Status.{Status}
-use Rattle.burr_judge.specs.declared.refused.Status.TheVariants.{Done, Waiting}
+use Rattle.burr_judge.specs.declared.status.Status.{Status}
+use Rattle.burr_judge.specs.declared.status.Status.TheVariants.{Done, Waiting}
 use Rattle.burr_judge.specs.Faults.{complaint_of, output_failed}
-use Rattle.burr_asm.specs.Rules.Assembling.{IsAssembled}
-use Rattle.burr_judge.specs.Ladder.{IsRead}
-use Rattle.burr_judge.specs.PlanEnds.{Ends, RefusedEnds, ContainerEnds, PlanTextEnds, TextEnds}
+use Rattle.burr_judge.specs.PlanEnds.{Ends, JudgedEnds, ContainerEnds, InputBytesEnd, TextEnds, BytesBreak, InputBreaks, JudgedBreaks, TextBreaks}
 use Rattle.burr_judge.specs.StepEnds.{Left}
 
 -- the line that tells that a run is ready, by the SHA-256 of what it is of: the assembly's text, and
@@ -53,20 +50,12 @@ LedEnds left text bytes j output status =
 
 -- the plan is refused; or it is accepted, and led
 abbrev pub DriveEnds : Left → List ℕ → List ℕ → ContainerView → Assembly → Ends
-DriveEnds left text bytes kept a output status =
-    RefusedEnds kept a output status
-    ⊎ (IsAccepted (judged kept a) × LedEnds left text bytes (judged kept a) output status)
+DriveEnds left text bytes kept a = JudgedEnds kept a (LedEnds left text bytes)
 
--- the same of an assembly's text and a container's bytes
-abbrev pub DriveBytesEnd : Left → List ℕ → List ℕ → Ends
-DriveBytesEnd left text bytes =
-    TextEnds text (λ a. ContainerEnds bytes (λ kept. DriveEnds left text bytes kept a))
-
--- the same of a plan that comes as a container or as a text
-abbrev pub DriveTextEnds : Left → List ℕ → Given → Ends
-DriveTextEnds left text (given.Container bytes) = DriveBytesEnd left text bytes.now
-DriveTextEnds left text (given.Text plan) =
-    TextEnds text (λ a. PlanTextEnds plan.now (λ bytes. ContainerEnds bytes (λ kept.
+-- the same of an assembly's text and a plan, which comes as a container or as a text
+abbrev pub DriveTextEnds : Left → List ℕ → PlanInput → Ends
+DriveTextEnds left text plan =
+    TextEnds text (λ a. InputBytesEnd plan (λ bytes. ContainerEnds bytes (λ kept.
     DriveEnds left text bytes kept a)))
 
 -- the streams since this was taken
@@ -86,20 +75,13 @@ LedBreaks s text bytes j line =
 
 -- the plan is accepted, and the drive breaks off
 abbrev pub DriveBreaks : Streams → List ℕ → List ℕ → ContainerView → Assembly → List ℕ → Type 0
-DriveBreaks s text bytes kept a line =
-    IsAccepted (judged kept a) × LedBreaks s text bytes (judged kept a) line
+DriveBreaks s text bytes kept a = JudgedBreaks kept a (LedBreaks s text bytes)
 
--- the same of an assembly's text and a container's bytes
-abbrev pub DriveBytesBreak : Streams → List ℕ → List ℕ → List ℕ → Type 0
-DriveBytesBreak s text bytes line =
-    (a : Assembly) × IsText text a
-    × ((kept : ContainerView) × IsRead bytes kept × DriveBreaks s text bytes kept a line)
-
--- the same of a plan that comes as a container or as a text
-abbrev pub DriveTextBreaks : Streams → List ℕ → Given → List ℕ → Type 0
-DriveTextBreaks s text (given.Container bytes) line = DriveBytesBreak s text bytes.now line
-DriveTextBreaks s text (given.Text plan) line =
-    (bytes : List ℕ) × IsAssembled plan.now bytes × DriveBytesBreak s text bytes line
+-- the same of an assembly's text and a plan, which comes as a container or as a text
+abbrev pub DriveTextBreaks : Streams → List ℕ → PlanInput → List ℕ → Type 0
+DriveTextBreaks s text plan =
+    TextBreaks text (λ a. InputBreaks plan (λ bytes. BytesBreak bytes (λ kept.
+    DriveBreaks s text bytes kept a)))
 
 -- why it was not told that the run is ready: the sink failed, and holds a front of that; or memory
 -- was refused, and it was left alone

@@ -1,11 +1,12 @@
 pub mod DriveEnds
 pub mod DriveLaws
 pub mod Faults
-pub mod Ladder
+pub mod Inputs
 pub mod OpenEnds
 pub mod PlanEnds
 pub mod Refusals
 pub mod Rules
 pub mod Statuses
 pub mod StepEnds
+pub mod Stops
 pub mod Views

@@ -1,10 +1,10 @@
 -- How a command on a plan and an assembly ends: what is printed, and with which status.
 use Rattle.std.specs.Prelude.{◌≡◌, ◌⊎◌, ℕ, ℤ, List, Result, true, false, codes, IsTrue, IfOk, IfErr}
 use Rattle.burr_io.specs.Sink.{SinkView, Takes, FailsWithin, HoldsFront}
-use Rattle.burr_assembly.specs.Rules.Text.{Assembly}
+use Rattle.burr_assembly.specs.Rules.Text.{Assembly, IsText}
 use Rattle.burr_container.specs.Rules.Plans.{Plan}
 use Rattle.burr_container.specs.Views.Containers.{ContainerView, IsContainer}
-use Rattle.burr_verify.specs.Rules.Accepting.{Judged, judged, IsAccepted, MainCosts}
+use Rattle.burr_verify.specs.Rules.Accepting.{Judged, judged, IsAccepted}
 use Rattle.burr_state.specs.Views.Benches.{Benched}
 use Rattle.burr_state.specs.Views.Programs.{plan_program}
 use Rattle.burr_runs.specs.declared.text_runs.Outcome.{Outcome}
@@ -14,15 +14,15 @@ use Rattle.burr_runs.specs.Rules.Answers.{answers_text, IsAnswersFault}
 use Rattle.burr_runs.specs.Rules.Headline.{IsSafeSheetOf}
 use Rattle.burr_runs.specs.Rules.Output.{IsSheetOf}
 use Rattle.burr_runs.specs.Rules.Refusals.{answers_refusal}
-use Rattle.burr_runs.specs.Rules.Verdicts.{IsVerdictLine, accepted_line}
+use Rattle.burr_runs.specs.Rules.Verdicts.{IsVerdictLine}
 use Rattle.burr_judge.specs.declared.fault.Fault.{Fault}
-use Rattle.burr_judge.specs.declared.ladder.Given.{Given}
-use Rattle.burr_judge.specs.declared.refused.Status.{Status}
-use Rattle.burr_judge.specs.declared.refused.Status.TheVariants.{Done, Refused}
+use Rattle.burr_judge.specs.declared.plan_input.PlanInput.{PlanInput}
+use Rattle.burr_judge.specs.declared.status.Status.{Status}
+use Rattle.burr_judge.specs.declared.status.Status.TheVariants.{Done, Refused}
 use Rattle.burr_judge.specs.declared.tasks.Task.{Task}
 use Rattle.burr_judge.specs.declared.tasks.Task.TheVariants.{Check, Run, Try}
 use Rattle.burr_judge.specs.Faults.{line_of, output_failed}
-use Rattle.burr_judge.specs.Ladder.{TextComes, PlanTextComes, BytesCome, GivenComes, PlanTried}
+use Rattle.burr_judge.specs.Inputs.{AreBytesOf, IsRead, RefusesInput, TextComes, PlanTextComes, BytesCome, PlanTried}
 use Rattle.burr_judge.specs.Statuses.{status_of}
 
 -- what may be printed, and with which status
@@ -36,12 +36,6 @@ IsRefusal line output status = (output ≡ line) × (status ≡ Refused)
 -- the plan is refused
 abbrev pub RefusedEnds : ContainerView → Assembly → Ends
 RefusedEnds kept a output status = IsVerdictLine kept a false output × (status ≡ Refused)
-
--- the plan was accepted by this many looks
-abbrev pub VerdictEnds : Judged → ℕ → Ends
-VerdictEnds j looks output status =
-    ((cost : ℕ) × MainCosts j cost × (output ≡ accepted_line cost j.container.header.budget looks))
-    × (status ≡ Done)
 
 -- of `check`: the plan is accepted, or refused
 abbrev pub CheckEnds : ContainerView → Assembly → Ends
@@ -66,11 +60,16 @@ SafeEnds j answers output status =
     (p : Plan) × IsContainer j.container p × (outcome : Outcome)
     × IsSafeSheetOf j.assembly p answers output outcome × (status ≡ status_of outcome)
 
+-- the plan is refused; or it is accepted, and the command ends as given for it
+pub data JudgedEnds (kept : ContainerView) (a : Assembly) (With : Judged → Ends) (output : List ℕ)
+    (status : Status) : Type 0 where
+  plan_refused : RefusedEnds kept a output status → JudgedEnds kept a With output status
+  plan_accepted : IsAccepted (judged kept a) → With (judged kept a) output status
+      → JudgedEnds kept a With output status
+
 -- of `run`: the plan is refused; or it is accepted, and then answers are judged, and it is run
 abbrev pub RunEnds : ContainerView → Assembly → List ℕ → Ends
-RunEnds kept a text output status =
-    RefusedEnds kept a output status
-    ⊎ (IsAccepted (judged kept a) × AnswersEnd text (SafeEnds (judged kept a)) output status)
+RunEnds kept a text = JudgedEnds kept a (λ j. AnswersEnd text (SafeEnds j))
 
 -- the sheet of the run of a bench's program, and the status of how it ends
 abbrev pub BenchEnds : Benched → List ℤ → Ends
@@ -111,10 +110,15 @@ abbrev pub ContainerEnds : List ℕ → (ContainerView → Ends) → Ends
 ContainerEnds bytes With output status =
     BytesCome (λ line. IsRefusal line output status) (λ kept. With kept output status) bytes
 
--- the same of a plan that comes as a container or as a text
-abbrev pub GivenEnds : Given → (ContainerView → Ends) → Ends
-GivenEnds plan With output status =
-    GivenComes (λ line. IsRefusal line output status) (λ kept. With kept output status) plan
+-- the same of a plan that comes as a container or as a text: a plan text is refused, or it ends as
+-- given for the bytes of the container
+abbrev pub InputBytesEnd : PlanInput → (List ℕ → Ends) → Ends
+InputBytesEnd plan With output status =
+    (RefusesInput plan output × (status ≡ Refused))
+    ⊎ ((bytes : List ℕ) × AreBytesOf plan bytes × With bytes output status)
+
+abbrev pub InputEnds : PlanInput → (ContainerView → Ends) → Ends
+InputEnds plan With = InputBytesEnd plan (λ bytes. ContainerEnds bytes With)
 
 -- an assembly's text, a container, and a text of answers
 abbrev pub PlanEnds : Task → List ℕ → List ℕ → List ℕ → Ends
@@ -122,8 +126,8 @@ PlanEnds task text bytes answers =
     TextEnds text (λ a. ContainerEnds bytes (λ kept. TaskEnds task kept a answers))
 
 -- of `check`, with a plan as it is given
-abbrev pub CheckTextEnds : List ℕ → Given → Ends
-CheckTextEnds text plan = TextEnds text (λ a. GivenEnds plan (λ kept. CheckEnds kept a))
+abbrev pub CheckTextEnds : List ℕ → PlanInput → Ends
+CheckTextEnds text plan = TextEnds text (λ a. InputEnds plan (λ kept. CheckEnds kept a))
 
 -- a sink took what is printed with this status
 abbrev pub PutsEnd : {S : Type 0} → SinkView S → S → S → Ends → Status → Type 0
@@ -180,3 +184,20 @@ abbrev pub Ending : {S : Type 0} → SinkView S → S → S → Ends → (List �
 Ending sink before after AreEnds Breaks r =
     IfOk r (PutsEnd sink before after AreEnds)
     × IfErr r (λ fault. Stops sink before after AreEnds Breaks (line_of fault))
+
+-- Where a command breaks off, stage by stage
+
+abbrev pub TextBreaks : List ℕ → (Assembly → List ℕ → Type 0) → List ℕ → Type 0
+TextBreaks text With line = (a : Assembly) × IsText text a × With a line
+
+abbrev pub InputBreaks : PlanInput → (List ℕ → List ℕ → Type 0) → List ℕ → Type 0
+InputBreaks plan With line = (bytes : List ℕ) × AreBytesOf plan bytes × With bytes line
+
+abbrev pub BytesBreak : List ℕ → (ContainerView → List ℕ → Type 0) → List ℕ → Type 0
+BytesBreak bytes With line = (kept : ContainerView) × IsRead bytes kept × With kept line
+
+-- the plan is accepted, and the command breaks off
+pub record JudgedBreaks (kept : ContainerView) (a : Assembly) (With : Judged → List ℕ → Type 0)
+    (line : List ℕ) : Type 0 where
+  pub accepted : IsAccepted (judged kept a)
+  pub breaks : With (judged kept a) line

@@ -1,20 +1,19 @@
 -- How a dialogue about a plan ends: what is printed for the commands that a source gave, and with
 -- which status.
-use Rattle.std.specs.Prelude.{◌≡◌, ◌⊎◌, ℕ, List, Bool, Option}
+use Rattle.std.specs.Prelude.{◌≡◌, ℕ, List, Bool, Option}
 use Rattle.burr_io.specs.Source.{SourceView}
-use Rattle.burr_assembly.specs.Rules.Text.{Assembly, IsText}
+use Rattle.burr_assembly.specs.Rules.Text.{Assembly}
 use Rattle.burr_container.specs.Views.Containers.{ContainerView}
-use Rattle.burr_verify.specs.Rules.Accepting.{Judged, judged, IsAccepted}
+use Rattle.burr_verify.specs.Rules.Accepting.{Judged}
 use Rattle.burr_step.specs.Views.Stepping.{Stepping, IsFresh}
 use Rattle.burr_runs.specs.declared.input.BenchFault.{BenchFault}
 use Rattle.burr_runs.specs.Views.BenchText.{Streams}
 use Rattle.burr_judge.specs.Views.Commanding.{StepAnswers, IsAnswerLine}
 use Rattle.burr_judge.specs.Views.Dialogues.{IsDialogue, BreaksDialogue}
 use Rattle.burr_judge.specs.declared.dialogue.LineEnd.TheVariants.{LineFeed}
-use Rattle.burr_judge.specs.declared.refused.Status.TheVariants.{Done}
+use Rattle.burr_judge.specs.declared.status.Status.TheVariants.{Done}
 use Rattle.burr_judge.specs.Faults.{complaint_of}
-use Rattle.burr_judge.specs.Ladder.{IsRead}
-use Rattle.burr_judge.specs.PlanEnds.{Ends, RefusedEnds, ContainerEnds, TextEnds}
+use Rattle.burr_judge.specs.PlanEnds.{Ends, JudgedEnds, ContainerEnds, TextEnds, BytesBreak, JudgedBreaks, TextBreaks}
 
 -- what a source had left before and after, and whether it has failed
 pub record Left : Type 0 where
@@ -39,9 +38,7 @@ DialogueEnds left j output status =
 
 -- the plan is refused; or it is accepted, and the commands are answered
 abbrev pub StepEnds : Left → ContainerView → Assembly → Ends
-StepEnds left kept a output status =
-    RefusedEnds kept a output status
-    ⊎ (IsAccepted (judged kept a) × DialogueEnds left (judged kept a) output status)
+StepEnds left kept a = JudgedEnds kept a (DialogueEnds left)
 
 -- the same of an assembly's text and a container
 abbrev pub StepTextEnds : Left → List ℕ → List ℕ → Ends
@@ -61,10 +58,9 @@ DialogueBreaks s j line =
 
 -- the plan is accepted, and the dialogue breaks off
 abbrev pub StepBreaks : Streams → ContainerView → Assembly → List ℕ → Type 0
-StepBreaks s kept a line = IsAccepted (judged kept a) × DialogueBreaks s (judged kept a) line
+StepBreaks s kept a = JudgedBreaks kept a (DialogueBreaks s)
 
 -- the same of an assembly's text and a container
 abbrev pub StepTextBreaks : Streams → List ℕ → List ℕ → List ℕ → Type 0
-StepTextBreaks s text bytes line =
-    (a : Assembly) × IsText text a
-    × ((kept : ContainerView) × IsRead bytes kept × StepBreaks s kept a line)
+StepTextBreaks s text bytes =
+    TextBreaks text (λ a. BytesBreak bytes (λ kept. StepBreaks s kept a))

@@ -7,7 +7,8 @@ use burr_blocking::PlainCells;
 use burr_container::{Container, Plan};
 use burr_io::{Kept, Writing};
 use burr_judge::{
-    Commanded, Fault, Given, KeptStepper, ReadText, Status, StepFault, check_given, check_text,
+    Commanded, Fault, KeptStepper, PlanInput, ReadText, Status, StepFault, Stop, check_input,
+    check_text,
 };
 use burr_step::{KeptDrive, StepRefusal, Stepper};
 use burr_testing::plans::CUP;
@@ -38,7 +39,7 @@ pub enum Call {
     Answer,
     Command,
     CheckText,
-    CheckGiven,
+    CheckInput,
     ReadText,
 }
 
@@ -64,7 +65,7 @@ pub const CALLS: [(&str, Call); 22] = [
     ("Stepper::answer", Call::Answer),
     ("command", Call::Command),
     ("check_text", Call::CheckText),
-    ("check_given", Call::CheckGiven),
+    ("check_input", Call::CheckInput),
     ("ReadText::new", Call::ReadText),
 ];
 
@@ -92,7 +93,7 @@ impl Call {
             Call::Answer => answer_is_taken(kit),
             Call::Command => command_is_taken(kit),
             Call::CheckText => text_is_checked(kit),
-            Call::CheckGiven => plan_is_checked(kit),
+            Call::CheckInput => plan_is_checked(kit),
             Call::ReadText => plans_are_checked(kit),
         }
     }
@@ -103,34 +104,34 @@ impl Call {
 
 pub fn text_is_checked(kit: &Kit<'_>) -> Result<bool, AllocError> {
     let mut said = Kept::new(kit.alloc);
-    let judged = check_text(kit.alloc, CUP.as_bytes(), Given::Text(TEXT), &mut said);
+    let judged = check_text(kit.alloc, CUP.as_bytes(), PlanInput::Text(TEXT), &mut said);
     is_accepted(&judged, &said.into_bytes())
 }
 
 pub fn plan_is_checked(kit: &Kit<'_>) -> Result<bool, AllocError> {
     let cells = PlainCells::new(&kit.assembly);
     let mut said = Kept::new(kit.alloc);
-    let judged = check_given(kit.alloc, &cells, Given::Text(TEXT), &mut said);
+    let judged = check_input(kit.alloc, &cells, PlanInput::Text(TEXT), &mut said);
     is_accepted(&judged, &said.into_bytes())
 }
 
 pub fn plans_are_checked(kit: &Kit<'_>) -> Result<bool, AllocError> {
     let read = ReadText::new(kit.alloc, Vec::from_slice(kit.alloc, CUP.as_bytes())?)?;
     let mut said = Kept::new(kit.alloc);
-    let judged = read.check(kit.alloc, Given::Container(kit.bytes), &mut said);
+    let judged = read.check(kit.alloc, PlanInput::Container(kit.bytes), &mut said);
     is_accepted(&judged, &said.into_bytes())
 }
 
 /// Whether the plan is accepted. What is said takes memory too, and nothing is said where other
 /// memory is wanting.
-fn is_accepted(judged: &Result<Status, Fault<'_>>, said: &[u8]) -> Result<bool, AllocError> {
+fn is_accepted(judged: &Result<Status, Stop<'_>>, said: &[u8]) -> Result<bool, AllocError> {
     match judged {
         Ok(status) => {
             let line = b"accepted cost 18 budget 18 looks 6\n";
             Ok(*status == Status::Done && said == line.as_slice())
         }
-        Err(Fault::Write(_)) => Err(AllocError),
-        Err(Fault::Memory) => {
+        Err(Stop::Fault(Fault::Write(_))) => Err(AllocError),
+        Err(Stop::Fault(Fault::Memory)) => {
             if said.is_empty() {
                 Err(AllocError)
             } else {

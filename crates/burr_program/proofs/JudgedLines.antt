@@ -9,10 +9,16 @@ use Rattle.std.proofs.lemmas.List.{length-take, take_all}
 use Rattle.std.proofs.lemmas.Option.{none-some}
 use Rattle.burr_text.specs.Words.{IsCutAt}
 use Rattle.burr_text.proofs.Common.Cuts.{cut, lacks, contains_cut}
-use Rattle.burr_io.specs.Sink.{SinkView}
+use Rattle.burr_io.specs.Sink.{SinkView, Takes}
 use Rattle.burr_judge.specs.declared.commands.StepFault.{StepFault}
 use Rattle.burr_judge.specs.declared.dialogue.TheConstants.{KEPT}
-use Rattle.burr_judge.specs.declared.refused.Status.{Status}
+use Rattle.burr_judge.specs.declared.status.Status.{Status}
+use Rattle.burr_judge.specs.declared.stop.Stop.{Stop}
+use Rattle.burr_judge.specs.declared.stop.Stop.TheVariants as halts
+use Rattle.burr_judge.specs.PlanEnds.{Ends}
+use Rattle.burr_judge.specs.Refusals.{refusal_text}
+use Rattle.burr_judge.specs.Stops.{Reports}
+use Rattle.burr_program.specs.Commands.{FileResult}
 use Rattle.burr_judge.specs.Views.Dialogues.{PutsAnswer, FailsInAnswer, TellsByFront}
 use Rattle.burr_program.specs.ListEnds.{ArePair, IsPair, LineEnds, PairEnds, Tally, AnswersPair, AsksNothing, tallied, judged_line}
 use Rattle.burr_program.specs.Judging.{TellsJudged}
@@ -34,14 +40,6 @@ pub unread : {E : Type 0} (bytes : List ℕ) (r : Result (Bor (List ℕ)) E) (Q 
     → MatchResult r (λ s. (s.now ≡ bytes) × IsUtf8 bytes) (λ e. ¬ IsUtf8 bytes × Q e) → ¬ IsUtf8 bytes
 unread bytes (Ok s) Q none h is = none-some s none
 unread bytes (Err f) Q none h is = h.0 is
-
--- what was put since there was nothing is all that is kept
-pub judged_so : (old new : Option (List ℕ)) (bytes : List ℕ) (status : Status) → old ≡ Some [] → new ≡ Some bytes
-    → ((output : List ℕ) × PairEnds output status × Appends old new output) → PairEnds bytes status
-judged_so old new bytes status first last (output, is, took) =
-    let same : Appends (Some []) (Some bytes) output =
-    subst (λ (o : Option (List ℕ)). Appends o (Some bytes) output) first (subst (λ (n : Option (List ℕ)). Appends old n output) last took) in
-    subst (λ (b : List ℕ). PairEnds b status) (sym same) is
 
 -- No more of a line matters than the bytes that are kept
 
@@ -108,3 +106,18 @@ told sink before after old line said status new (Err fault) ends (is, write, fai
   err = (judged_line new.count status said, true, answers_so old line said status new true ends is refl, some_line new.count status said, fails);
   quit = tt;
 })
+
+-- what a pair's judgement printed, once its refusal is reported
+pub pair_told : {S : Type 0} {sink : SinkView S} {before mid after : S} {AreEnds : Ends} (done : Result Status Stop) (status : Status)
+    → FileResult sink before mid AreEnds done → Reports sink mid after done (Ok status) → (output : List ℕ) × AreEnds output status × Takes sink before after output
+pair_told {S} {sink} {before} {mid} {after} {AreEnds} (Ok given) status result reports =
+    let (same, kept) = reports.told in
+    let equal : status ≡ given = cc in
+    let (output, ends, takes) = result.done in
+    (output, subst (AreEnds output) (sym equal) ends, subst (λ (s : S). Takes sink before s output) (sym kept) takes)
+pair_told (Err (halts.Fault fault)) status result reports = let (same, kept) = reports.told in absurd cc
+pair_told {S} {sink} {before} {mid} {after} {AreEnds} (Err (halts.Refused refused notes)) status result reports =
+    let (fine, takes) = reports.told in
+    let (ends, kept) = result.stops in
+    let text = refusal_text refused notes in
+    (text, subst (AreEnds text) (sym fine) ends, subst (λ (s : S). Takes sink s after text) kept takes)

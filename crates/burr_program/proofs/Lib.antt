@@ -1,8 +1,11 @@
+mod Bare
 mod CellLines
-mod Ending
 mod ExplainLaws
+mod Finishing
 mod HandedText
 mod HowFar
+mod Jobs
 mod JudgedLines
-mod Making
 mod Noted
+mod Replies
+mod Results

@@ -1,109 +1,63 @@
--- How what is done with notes ends: more is put after what was printed.
-use Rattle.std.proofs.Common.{Bor, ◌≡◌, ℕ, List, [], ap, refl, subst, sym, ◌∙◌, inl, inr}
-use Rattle.std.proofs.lemmas.List.{append-nil, append_assoc}
-use Rattle.std.specs.Prelude.{Option, Some, Result, Ok, Err, ◌++◌}
-use Rattle.std.specs.Io.KnownBytes.{Appends}
+-- The result of `why` and `trace`, stage by stage: what is printed, and notes below it.
+use Rattle.std.proofs.Common.{◌≡◌, ◌++◌, List, ℕ, [], refl, sym, inl, inr}
+use Rattle.std.specs.Prelude.{Result}
 use Rattle.std.specs.Result.{IsErrAnd}
-use Rattle.std.proofs.lemmas.Result.{err_from_is_err_and}
-use Rattle.std.proofs.KnownBytes.{Appends-trans}
-use Rattle.burr_io.specs.Sink.{SinkView, Takes, FailsWithin}
-use Rattle.burr_io.proofs.Common.Puts.{FailsWithin-more}
-use Rattle.burr_assembly.specs.Rules.Text.{Assembly}
+use Rattle.std.proofs.lemmas.List.{append-nil}
+use Rattle.burr_io.specs.Sink.{SinkView}
+use Rattle.burr_asm.specs.Rules.Assembling.{IsAssembled}
+use Rattle.burr_assembly.specs.Rules.Text.{Assembly, IsText}
+use Rattle.burr_container.specs.declared.fault.ContainerFault.{ContainerFault}
+use Rattle.burr_container.specs.Rules.Faults.{ContainerFails}
 use Rattle.burr_container.specs.Views.Containers.{ContainerView}
-use Rattle.burr_verify.specs.Rules.Accepting.{judged}
-use Rattle.burr_verify.specs.Views.Refusals.{another_assembly}
-use Rattle.burr_runs.specs.Rules.Verdicts.{plan_refusal}
-use Rattle.burr_judge.specs.declared.fault.Fault.{Fault}
-use Rattle.burr_judge.specs.declared.ladder.Given.TheVariants.{Text}
-use Rattle.burr_judge.specs.declared.refused.Status.{Status}
+use Rattle.burr_runs.specs.Rules.Refusals.{container_refusal}
+use Rattle.burr_judge.specs.declared.status.Status.{Status}
+use Rattle.burr_judge.specs.declared.status.Status.TheVariants.{Refused}
+use Rattle.burr_judge.specs.declared.stop.Stop.{Stop}
 use Rattle.burr_judge.specs.declared.tasks.Task.{Task}
-use Rattle.burr_judge.specs.Faults.{line_of, output_failed}
-use Rattle.burr_judge.specs.Ladder.{PlanJudged, PlanTried, LadderComes, WantsMemory}
-use Rattle.burr_judge.specs.PlanEnds.{Ends, EndsOn, AnswersEnd, IsRefusal, CheckEnds, SheetEnds, TaskEnds, TryEnds, VerdictEnds}
-use Rattle.burr_judge.proofs.Common.Stages.{AreAmong}
-use Rattle.burr_judge.proofs.Common.Comes.{ends_among, memory_ends, text_told, verdict_among}
-use Rattle.burr_program.specs.AddedNotes.{AddsNotes, PutsKept}
-use Rattle.burr_program.specs.NotedEnds.{Begins, NotedEnds}
+use Rattle.burr_judge.specs.declared.tasks.Task.TheVariants.{Try}
+use Rattle.burr_lines.specs.FilledTexts.{IsFilledIn}
+use Rattle.burr_judge.specs.Inputs.{IsRead, RefusesPlanBytes}
+use Rattle.burr_judge.specs.PlanEnds.{Ends, TaskEnds}
+use Rattle.burr_judge.specs.Stops.{Noted, Refuses, RefusesText, ResultOn}
+use Rattle.burr_judge.proofs.Common.Results.{comes_among, handed, is_refused}
+use Rattle.burr_program.specs.NotedEnds.{Begins, NotedEnds, TracedEnds}
 
--- what may be printed first at one stage may be at the other
-begins_among : (These Those : Ends) → AreAmong These Those → AreAmong (Begins These) (Begins Those)
-begins_among These Those among output status (first, more, parts, is) = (first, more, parts, among first status is)
+module _ {S : Type 0} {sink : SinkView S} (task : Task) {drawing plan : List ℕ} (answers : List ℕ) {r : Result Status Stop} {Breaks : List ℕ → Type 0} where
+  -- the assembly's text is refused
+  pub text_noted : {before : S} {stop : Stop} → Refuses (Noted (RefusesText drawing)) stop → IsErrAnd r (λ e. e ≡ stop) → ResultOn sink before before (NotedEnds task drawing plan answers) Breaks r
+  text_noted {stop = stop} refuses err =
+      is_refused (Noted (RefusesText drawing)) (λ line (first, more, parts, (fault, fails, says)). (first, more, parts, inl (fault, fails, (says, refl)))) (handed _ _ stop refuses err)
 
--- what was put on a sink that had taken nothing is all that it has taken
-all_taken : {K : Type 0} (keeper : SinkView K) (first last : K) (bytes output : List ℕ) → keeper.taken first ≡ Some [] → keeper.taken last ≡ Some bytes
-    → Takes keeper first last output → output ≡ bytes
-all_taken keeper first last bytes output none some took =
-    sym (subst (λ (o : Option (List ℕ)). Appends o (Some bytes) output) none (subst (λ (n : Option (List ℕ)). Appends (keeper.taken first) n output) some took))
+  -- the plan text is refused
+  pub plan_text_noted : {before : S} {stop : Stop} (a : Assembly) (text : List ℕ) → IsText drawing a → text ≡ plan → Refuses (Noted (RefusesPlanBytes text)) stop → IsErrAnd r (λ e. e ≡ stop)
+      → ResultOn sink before before (NotedEnds task drawing plan answers) Breaks r
+  plan_text_noted {stop = stop} a text is same refuses err = rw (← same)
+      (is_refused (Noted (RefusesPlanBytes text)) (λ line (first, more, parts, (fault, fails, says)). (first, more, parts, inr (a, is, inl (fault, fails, (says, refl))))) (handed _ _ stop refuses err))
 
--- more is put after what was printed, or why it was not
-pub notes_end : {S : Type 0} (sink : SinkView S) (old mid new : S) (AreEnds : Ends) (notes : List ℕ) (done result : Result Status Fault)
-    → AddsNotes sink mid new notes done result → EndsOn sink old mid AreEnds done → EndsOn sink old new (Begins AreEnds) result
-notes_end sink old mid new AreEnds notes (Ok given) (Ok status) (same, put) ((output, is, took), tt) =
-    ((output ++ notes, (output, notes, refl, subst (AreEnds output) (sym same) is), Appends-trans (sink.taken old) (sink.taken mid) (sink.taken new) output notes took put), tt)
-notes_end sink old mid new AreEnds notes (Ok given) (Err fault) (line, within) ((output, is, took), tt) =
-    (tt, inl (line, (output ++ notes, given, (output, notes, refl, is), FailsWithin-more output took within)))
-notes_end sink old mid new AreEnds notes (Err given) (Ok status) adds ends = absurd adds
-notes_end {S} sink old mid new AreEnds notes (Err given) (Err fault) (same, left) (tt, inl (line, (output, status, is, within))) =
-    (tt, inl (ap line_of same ∙ line, (output, status, (output, [], sym (append-nil output), is), subst (λ (s : S). FailsWithin sink old s output) (sym left) within)))
-notes_end sink old mid new AreEnds notes (Err given) (Err fault) (same, left) (tt, inr (line, kept)) = (tt, inr (ap line_of same ∙ line, left ∙ kept))
+  -- its container is refused
+  pub container_noted : {before : S} (a : Assembly) (text bytes : List ℕ) (fault : ContainerFault) → IsText drawing a → text ≡ plan → IsAssembled text bytes → ContainerFails 0 bytes fault
+      → IsErrAnd r (Refuses (λ line. line ≡ container_refusal fault)) → ResultOn sink before before (NotedEnds task drawing plan answers) Breaks r
+  container_noted a text bytes fault is same assembled fails err = rw (← same)
+      (is_refused (λ line. line ≡ container_refusal fault) (λ line says. (line, [], sym (append-nil line), inr (a, is, inr (bytes, assembled, inl (fault, fails, (says, refl)))))) err)
 
--- what the ladder comes to with notes, from each refusal and each use
-pub text_noted : {I S : Type 0} (first last : I) (sink : SinkView S) (before after : S) (task : Task) (text : List ℕ) (plan : Bor (List ℕ)) (answers : List ℕ) (r : Result Status Fault) (Uses : ContainerView → Assembly → Type 0)
-    → ((kept : ContainerView) (a : Assembly) → Uses kept a → EndsOn sink before after (Begins (TaskEnds task kept a answers)) r)
-    → LadderComes (WantsMemory before after r × (last ≡ first)) (λ line. EndsOn sink before after (Begins (IsRefusal line)) r × (last ≡ first)) Uses text (Text plan)
-    → EndsOn sink before after (NotedEnds task text plan.now answers) r
-text_noted first last sink before after task text plan answers r Uses uses =
-    text_told (λ ends. EndsOn sink before after (Begins ends) r) (λ these those among. ends_among sink before after (Begins these) (Begins those) r (begins_among these those among))
-    (WantsMemory before after r × (last ≡ first)) (λ line. EndsOn sink before after (Begins (IsRefusal line)) r × (last ≡ first)) Uses (λ kept a. TaskEnds task kept a answers) text (Text plan)
-    (λ ends want. memory_ends sink before after (Begins ends) r want.0) (λ line is. is.0) (λ a read of given kept was. uses kept a)
+  -- the task ends so
+  pub task_noted : {before after : S} (a : Assembly) (text bytes : List ℕ) (kept : ContainerView) → IsText drawing a → text ≡ plan → IsAssembled text bytes → IsRead bytes kept
+      → ResultOn sink before after (Begins (TaskEnds task kept a answers)) Breaks r → ResultOn sink before after (NotedEnds task drawing plan answers) Breaks r
+  task_noted a text bytes kept is same assembled read comes = rw (← same)
+      (comes_among (λ output status (first, more, parts, ends). (first, more, parts, inr (a, is, inr (bytes, assembled, inr (kept, read, ends))))) (λ line breaks. breaks) comes)
 
--- a plan is judged, and notes stand only below its refusal
-pub why_noted : {I S : Type 0} (first last : I) (sink : SinkView S) (before after : S) (r : Result Status Fault) (kept : ContainerView) (a : Assembly)
-    → PlanJudged (λ line. EndsOn sink before after (Begins (IsRefusal line)) r × (last ≡ first)) (λ looks. EndsOn sink before after (VerdictEnds (judged kept a) looks) r) kept a
-    → EndsOn sink before after (Begins (CheckEnds kept a)) r
-why_noted first last sink before after r kept a (inl (refusal, refused, (ends, same))) =
-    ends_among sink before after (Begins (IsRefusal (plan_refusal a refusal))) (Begins (CheckEnds kept a)) r
-    (begins_among (IsRefusal (plan_refusal a refusal)) (CheckEnds kept a) (λ output status is. inr ((refusal, refused, is.0), is.1))) ends
-why_noted first last sink before after r kept a (inr (accepted, looks, passed, ends)) =
-    ends_among sink before after (VerdictEnds (judged kept a) looks) (Begins (CheckEnds kept a)) r
-    (λ output status is. (output, [], sym (append-nil output), verdict_among kept a looks accepted passed output status is)) ends
+-- a refusal with notes
+pub noted_refused : {S : Type 0} {sink : SinkView S} {before : S} {AreEnds : Ends} {Breaks : List ℕ → Type 0} {r : Result Status Stop} {stop : Stop} (Texts : List ℕ → Type 0)
+    → ((text : List ℕ) → Texts text → AreEnds text Refused) → Refuses (Noted Texts) stop → IsErrAnd r (λ e. e ≡ stop) → ResultOn sink before before (Begins AreEnds) Breaks r
+noted_refused {stop = stop} Texts ends refuses err =
+    is_refused (Noted Texts) (λ line (first, more, parts, is). (first, more, parts, ends first is)) (handed _ _ stop refuses err)
 
--- a plan is run, or refused with notes where it is for another assembly
-pub tried_noted : {S : Type 0} (sink : SinkView S) (before after : S) (kept : ContainerView) (a : Assembly) (answers : List ℕ) (r : Result Status Fault)
-    → PlanTried (λ line. EndsOn sink before after (Begins (IsRefusal line)) r) (EndsOn sink before after (AnswersEnd answers (SheetEnds kept a)) r) kept a
-    → EndsOn sink before after (Begins (TryEnds kept a answers)) r
-tried_noted sink before after kept a answers r (inl (misfit, ends)) =
-    ends_among sink before after (Begins (IsRefusal (plan_refusal a another_assembly))) (Begins (TryEnds kept a answers)) r
-    (begins_among (IsRefusal (plan_refusal a another_assembly)) (TryEnds kept a answers) (λ output status is. inl (misfit, is))) ends
-tried_noted sink before after kept a answers r (inr (for, ends)) =
-    ends_among sink before after (AnswersEnd answers (SheetEnds kept a)) (Begins (TryEnds kept a answers)) r
-    (λ output status is. (output, [], sym (append-nil output), inr (for, is))) ends
+-- nothing is said below
+pub said_alone : {S : Type 0} {sink : SinkView S} {before after : S} {AreEnds : Ends} {Breaks : List ℕ → Type 0} {r : Result Status Stop}
+    → ResultOn sink before after AreEnds Breaks r → ResultOn sink before after (Begins AreEnds) Breaks r
+said_alone comes = comes_among (λ output status ends. (output, [], sym (append-nil output), ends)) (λ line breaks. breaks) comes
 
--- what begins so, with more below, begins so
-begins_again : (AreEnds : Ends) → AreAmong (Begins (Begins AreEnds)) (Begins AreEnds)
-begins_again AreEnds output status (front, notes, parts, (first, more, same, is)) =
-    (first, more ++ notes, parts ∙ ap (λ (t : List ℕ). t ++ notes) same ∙ append_assoc first more notes, is)
-
--- what was kept of what was done is put, with notes
-pub kept_ends : {K S : Type 0} (keeper : SinkView K) (first last : K) (bytes : List ℕ) (sink : SinkView S) (before after : S) (AreEnds : Ends) (notes : List ℕ) (done r : Result Status Fault)
-    → keeper.taken first ≡ Some [] → keeper.taken last ≡ Some bytes → EndsOn keeper first last AreEnds done → PutsKept sink before after (bytes ++ notes) done r
-    → EndsOn sink before after (Begins AreEnds) r
-kept_ends keeper first last bytes sink before after AreEnds notes (Ok given) (Ok status) none some ((output, is, took), tt) (same, put) =
-    ((bytes ++ notes, (bytes, notes, refl, subst (AreEnds bytes) (sym same) (subst (λ (b : List ℕ). AreEnds b given) (all_taken keeper first last bytes output none some took) is)), put), tt)
-kept_ends keeper first last bytes sink before after AreEnds notes (Ok given) (Err fault) none some ((output, is, took), tt) (line, within) =
-    (tt, inl (line, (bytes ++ notes, given, (bytes, notes, refl, subst (λ (b : List ℕ). AreEnds b given) (all_taken keeper first last bytes output none some took) is), within)))
-kept_ends keeper first last bytes sink before after AreEnds notes (Err given) (Ok status) none some ends puts = absurd puts
-kept_ends keeper first last bytes sink before after AreEnds notes (Err given) (Err fault) none some ends (line, same) = (tt, inr (line, same))
-
--- a sink fails in what was kept, or in the notes after it
-pub kept_fails : {S : Type 0} (sink : SinkView S) (before after : S) (text : List ℕ) (given : Status) (done r : Result Status Fault) → done ≡ Ok given → FailsWithin sink before after text
-    → IsErrAnd r (λ fault. line_of fault ≡ output_failed) → PutsKept sink before after text done r
-kept_fails sink before after text given done r is within err = let p = err_from_is_err_and r err in rw (is, p.1) (p.2, within)
-
--- so it is of a run with notes
-pub kept_noted : {K S : Type 0} (keeper : SinkView K) (first last : K) (bytes : List ℕ) (sink : SinkView S) (before after : S) (AreEnds : Ends) (notes : List ℕ) (done r : Result Status Fault)
-    → keeper.taken first ≡ Some [] → keeper.taken last ≡ Some bytes → EndsOn keeper first last (Begins AreEnds) done → PutsKept sink before after (bytes ++ notes) done r
-    → EndsOn sink before after (Begins AreEnds) r
-kept_noted keeper first last bytes sink before after AreEnds notes done r none some ends puts =
-    ends_among sink before after (Begins (Begins AreEnds)) (Begins AreEnds) r (begins_again AreEnds)
-    (kept_ends keeper first last bytes sink before after (Begins AreEnds) notes done r none some ends puts)
+-- the text that is run has frames that say nothing
+pub traced : {S : Type 0} {sink : SinkView S} {before after : S} {drawing source framed answers : List ℕ} {Breaks : List ℕ → Type 0} {r : Result Status Stop}
+    → IsFilledIn source framed → ResultOn sink before after (NotedEnds Try drawing framed answers) Breaks r → ResultOn sink before after (TracedEnds drawing source answers) Breaks r
+traced {framed = framed} filled comes = comes_among (λ output status ends. (framed, filled, ends)) (λ line breaks. breaks) comes

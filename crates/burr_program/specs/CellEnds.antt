@@ -5,7 +5,7 @@ use Rattle.std.specs.Fmt.{signed_decimal}
 use Rattle.burr_voxels.specs.declared.cell.Cell.{Cell}
 use Rattle.burr_assembly.specs.Rules.Text.{Assembly}
 use Rattle.burr_assembly.specs.Rules.Homes.{homes_of, names_of}
-use Rattle.burr_judge.specs.declared.refused.Status.TheVariants.{Done}
+use Rattle.burr_judge.specs.declared.status.Status.TheVariants.{Done}
 use Rattle.burr_judge.specs.PlanEnds.{Ends}
 
 -- the line of a cell of the piece with this name, as `A 0 -1 2`

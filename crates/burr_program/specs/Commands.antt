@@ -1,66 +1,105 @@
--- How each command ends, and what it leaves on a sink.
-use Rattle.std.specs.Prelude.{◌≡◌, ◌⊎◌, ◌≤◌, ℕ, List, [], Bool, true, false, Result, IfOk, IfErr, IsTrue, string_bytes}
-use Rattle.burr_io.specs.Sink.{SinkView}
-use Rattle.burr_container.specs.Rules.Plans.{Plan}
+-- How each command ends: what it prints, which files it reads and writes, and why it stops.
+use Rattle.std.specs.Prelude.{◌≡◌, ◌⊎◌, ◌≤◌, ℕ, List, [], ⊤, Bool, true, false, Option, None, Some, Result, IfOk, IfErr, IsTrue, string_bytes}
+use Rattle.burr_io.specs.Sink.{SinkView, Takes}
+use Rattle.burr_asm.specs.Rules.Assembling.{IsAssembled}
+use Rattle.burr_container.specs.Rules.Plans.{Plan, upgraded}
 use Rattle.burr_container.specs.Rules.Fitting.{is_fitting}
 use Rattle.burr_container.specs.Rules.Spelling.{plan_bytes}
 use Rattle.burr_container.specs.Views.Containers.{ContainerView, IsContainer}
-use Rattle.burr_container.specs.Rules.Plans.{upgraded}
 use Rattle.burr_plantext.specs.Rules.Listing.{IsListing}
 use Rattle.burr_plantext.specs.Rules.ListedPlaces.{IsListingWithPlaces}
+use Rattle.burr_lines.specs.FilledTexts.{IsFilledIn}
 use Rattle.burr_runs.specs.Views.BenchText.{Streams}
 use Rattle.burr_runs.specs.Views.ReadWhole.{IsWholeInput}
 use Rattle.burr_command.specs.declared.job.Job.{Job}
 use Rattle.burr_command.specs.declared.job.Job.TheVariants as jobs
-use Rattle.burr_judge.specs.declared.fault.Fault.{Fault}
+use Rattle.burr_judge.specs.declared.dialogue.LineEnd.{LineEnd}
 use Rattle.burr_judge.specs.declared.dialogue.LineEnd.TheVariants.{LineFeed, SecondNul}
-use Rattle.burr_judge.specs.declared.refused.Status.{Status}
-use Rattle.burr_judge.specs.declared.refused.Status.TheVariants.{Done, Refused}
+use Rattle.burr_judge.specs.declared.plan_input.PlanInput.{PlanInput}
+use Rattle.burr_judge.specs.declared.status.Status.{Status}
+use Rattle.burr_judge.specs.declared.status.Status.TheVariants.{Done, Refused}
+use Rattle.burr_judge.specs.declared.stop.Stop.{Stop}
+use Rattle.burr_judge.specs.declared.stop.Stop.TheVariants as stops
 use Rattle.burr_judge.specs.declared.tasks.Task.{Task}
 use Rattle.burr_judge.specs.declared.tasks.Task.TheVariants.{Check, Run, Try}
+use Rattle.burr_judge.specs.DriveEnds.{DriveTextEnds, DriveTextBreaks}
 use Rattle.burr_judge.specs.Faults.{line_of, output_failed}
+use Rattle.burr_judge.specs.Inputs.{IsPlanInput}
+use Rattle.burr_judge.specs.PlanEnds.{Ends, PutsFrontOfEnd, TextEnds, PlanTextEnds, ContainerEnds, PlanEnds, never}
+use Rattle.burr_judge.specs.Refusals.{refusal_text}
 use Rattle.burr_judge.specs.Statuses.{code_of}
-use Rattle.burr_judge.specs.PlanEnds.{Ends, PutsEnd, PutsFrontOfEnd, HoldsFrontOfEnd, TextEnds, PlanTextEnds, ContainerEnds, PlanEnds, never}
+use Rattle.burr_judge.specs.StepEnds.{Left, StepTextEnds, StepTextBreaks}
+use Rattle.burr_judge.specs.Stops.{RefusesBytes}
 use Rattle.burr_program.specs.CellEnds.{CellEnds}
 use Rattle.burr_program.specs.ExplainEnds.{ExplainEnds}
 use Rattle.burr_program.specs.ListEnds.{JudgeCommand, JudgeCommandBreaks}
 use Rattle.burr_program.specs.MakingEnds.{MakesPlanOf}
-use Rattle.burr_program.specs.NotedEnds.{NotedEnds}
-use Rattle.burr_judge.specs.DriveEnds.{DriveTextEnds, DriveTextBreaks}
-use Rattle.burr_judge.specs.declared.ladder.Given.{Given}
-use Rattle.burr_judge.specs.Ladder.{IsGivenBy}
-use Rattle.burr_judge.specs.StepEnds.{Left, StepTextEnds, StepTextBreaks}
+use Rattle.burr_program.specs.NotedEnds.{NotedEnds, TracedEnds}
+use Rattle.burr_program.specs.declared.done.Done.{Done as Finished}
+use Rattle.burr_program.specs.declared.files.SourceFile.{SourceFile}
+use Rattle.burr_program.specs.declared.files.WrittenFile.{WrittenFile}
 
--- What a command leaves on its sink
+-- What a command returns, and what its sink took
 
--- Why a command that reads files has no end: the sink failed in what there is to print; or it was
--- left alone, as it is where a file can't be read; or the command broke off.
+-- what a command that is done may have printed, with its status and its files
+abbrev pub Dones : Type 1
+Dones = List ℕ → Finished → Type 0
+
+-- Why a command stops by a fault: the sink failed in what is printed; or it was left alone; or the
+-- command broke off.
 abbrev pub StopsOnFiles : {S : Type 0} → SinkView S → S → S → Ends → (List ℕ → Type 0) → List ℕ
     → Type 0
 StopsOnFiles sink before after AreEnds Breaks line =
     ((line ≡ output_failed) × PutsFrontOfEnd sink before after AreEnds)
     ⊎ (after ≡ before) ⊎ Breaks line
 
--- the sink took what is printed with this status, or a fault is told and it stopped so
-abbrev pub EndsOnFiles : {S : Type 0} → SinkView S → S → S → Ends → (List ℕ → Type 0)
-    → Result Status Fault → Type 0
-EndsOnFiles sink before after AreEnds Breaks r =
-    IfOk r (PutsEnd sink before after AreEnds)
-    × IfErr r (λ fault. StopsOnFiles sink before after AreEnds Breaks (line_of fault))
-
--- What a command comes to on the sink below, to which all is handed on at the end: that failed in what
--- there is to print, or took nothing, or the command broke off.
-abbrev pub StopsBelow : {S : Type 0} → SinkView S → S → S → Ends → (List ℕ → Type 0) → List ℕ
+-- why a command stops: a refusal is one of its ends, and the sink was left alone; or by a fault
+abbrev pub CommandStops : {S : Type 0} → SinkView S → S → S → Ends → (List ℕ → Type 0) → Stop
     → Type 0
-StopsBelow sink before after AreEnds Breaks line =
-    ((line ≡ output_failed) × HoldsFrontOfEnd sink before after AreEnds)
-    ⊎ (sink.taken after ≡ sink.taken before) ⊎ Breaks line
+CommandStops sink before after AreEnds Breaks (stops.Refused refused notes) =
+    AreEnds (refusal_text refused notes) Refused × (after ≡ before)
+CommandStops sink before after AreEnds Breaks (stops.Fault fault) =
+    StopsOnFiles sink before after AreEnds Breaks (line_of fault)
 
-abbrev pub EndingBelow : {S : Type 0} → SinkView S → S → S → Ends → (List ℕ → Type 0)
-    → Result Status Fault → Type 0
-EndingBelow sink before after AreEnds Breaks r =
-    IfOk r (PutsEnd sink before after AreEnds)
-    × IfErr r (λ fault. StopsBelow sink before after AreEnds Breaks (line_of fault))
+-- a command is done, and the sink took what it prints; or it stops
+pub record CommandResult {S : Type 0} (sink : SinkView S) (before after : S) (AreDone : Dones)
+    (AreEnds : Ends) (Breaks : List ℕ → Type 0) (r : Result Finished Stop) : Type 0 where
+  pub done : IfOk r (λ done. (output : List ℕ) × AreDone output done
+      × Takes sink before after output)
+  pub stops : IfErr r (CommandStops sink before after AreEnds Breaks)
+
+-- the same of a call of a command, which reads files and returns the status alone
+pub record FileResult {S : Type 0} (sink : SinkView S) (before after : S) (AreEnds : Ends)
+    (r : Result Status Stop) : Type 0 where
+  pub done : IfOk r (λ status. (output : List ℕ) × AreEnds output status
+      × Takes sink before after output)
+  pub stops : IfErr r (CommandStops sink before after AreEnds never)
+
+-- a refusal is one of the ends
+abbrev pub IsRefusalAmong : Ends → Stop → Type 0
+IsRefusalAmong AreEnds (stops.Refused refused notes) =
+    AreEnds (refusal_text refused notes) Refused
+IsRefusalAmong AreEnds (stops.Fault fault) = ⊤
+
+-- a command that prints nothing is done, or stops
+pub record SilentResult (AreDone : Dones) (AreEnds : Ends) (r : Result Finished Stop) : Type 0 where
+  pub done : IfOk r (AreDone [])
+  pub stops : IfErr r (IsRefusalAmong AreEnds)
+
+-- done, refused, trapped or stopped; or the run waits
+abbrev pub IsDone : ℕ → Type 0
+IsDone status = (status ≤ 1) ⊎ (status ≡ 5)
+
+-- something was printed, with such a status
+abbrev pub DoneEnds : Ends
+DoneEnds output status = IsDone (code_of status)
+
+-- notes are written, with the status 0 or 1; or the sink failed in them
+pub record PutsNotes {S : Type 0} (sink : SinkView S) (before after : S)
+    (r : Result Status Stop) : Type 0 where
+  pub done : IfOk r (λ status. (output : List ℕ) × IsDone (code_of status)
+      × Takes sink before after output)
+  pub stops : IfErr r (CommandStops sink before after DoneEnds never)
 
 -- How each command ends, for some bytes of the files that it reads
 
@@ -101,7 +140,9 @@ IsUpgradeOf bytes new =
 
 -- `upgrade`: a container is refused, or it is upgraded
 abbrev pub UpgradeCommand : Ends
-UpgradeCommand output status = (bytes : List ℕ) × ContainerEnds bytes (λ kept. MakesFile) output status
+UpgradeCommand output status =
+    (bytes : List ℕ) × ((RefusesBytes bytes output × (status ≡ Refused))
+    ⊎ ((new : List ℕ) × IsUpgradeOf bytes new × MakesFile output status))
 
 -- `check`: as the judgement of some texts
 abbrev pub CheckCommand : Ends
@@ -123,12 +164,12 @@ StepCommandBreaks s line = (text bytes : List ℕ) × StepTextBreaks s text byte
 -- `drive`: a drive through some texts, and where it breaks off
 abbrev pub DriveCommand : Left → Ends
 DriveCommand left output status =
-    (text bytes : List ℕ) × (plan : Given) × IsGivenBy bytes plan
+    (text bytes : List ℕ) × (plan : PlanInput) × IsPlanInput bytes plan
     × DriveTextEnds left text plan output status
 
 abbrev pub DriveCommandBreaks : Streams → List ℕ → Type 0
 DriveCommandBreaks s line =
-    (text bytes : List ℕ) × (plan : Given) × IsGivenBy bytes plan × DriveTextBreaks s text plan line
+    (text bytes : List ℕ) × (plan : PlanInput) × IsPlanInput bytes plan × DriveTextBreaks s text plan line
 
 -- `why`: the judgement of a plan text, with notes
 abbrev pub WhyCommand : Ends
@@ -138,15 +179,7 @@ WhyCommand output status = (text plan : List ℕ) × NotedEnds Check text plan [
 abbrev pub TraceCommand : Left → Ends
 TraceCommand left output status =
     (text plan answers : List ℕ) × IsWholeInput left.old left.new left.failed answers
-    × NotedEnds Try text plan answers output status
-
--- done, refused, trapped or stopped; or the run waits
-abbrev pub IsDone : ℕ → Type 0
-IsDone status = (status ≤ 1) ⊎ (status ≡ 5)
-
--- something was printed, with such a status
-abbrev pub DoneEnds : Ends
-DoneEnds output status = IsDone (code_of status)
+    × TracedEnds text plan answers output status
 
 -- something was refused
 abbrev pub SomeRefusal : Ends
@@ -158,8 +191,119 @@ PlanSheetCommand output status =
     ((drawing sheet text : List ℕ) × MakesPlanOf drawing sheet text × MakesFile output status)
     ⊎ SomeRefusal output status
 
--- each of them; the names of a list have a tab between them and a line feed after them, or a byte 0
--- after each
+-- Which files a command has read and written when it is done
+
+-- a file of this name was read, with these bytes
+abbrev pub IsFileRead : List ℕ → Option SourceFile → List ℕ → Type 0
+IsFileRead name place bytes =
+    (file : SourceFile) × (place ≡ Some file) × (file.name.now ≡ name) × (file.bytes.items ≡ bytes)
+
+-- a file of this name was written, with these bytes
+abbrev pub IsFileWritten : List ℕ → Option WrittenFile → List ℕ → Type 0
+IsFileWritten name place bytes =
+    (file : WrittenFile) × (place ≡ Some file) × (file.name.now ≡ name) × (file.bytes.items ≡ bytes)
+
+-- an assembly's text and another file were read, and what is printed is of their bytes
+abbrev pub ReadsBoth : List ℕ → List ℕ → (List ℕ → List ℕ → Ends) → Dones
+ReadsBoth assembly source With output done =
+    (text bytes : List ℕ) × IsFileRead assembly done.assembly text
+    × IsFileRead source done.source bytes × (done.written ≡ None)
+    × With text bytes output done.status
+
+-- a file was read, and another one written with bytes that are so of its own
+abbrev pub Rewrites : List ℕ → List ℕ → (List ℕ → List ℕ → Type 0) → Dones
+Rewrites source out Are output done =
+    (old new : List ℕ) × (done.assembly ≡ None) × IsFileRead source done.source old
+    × IsFileWritten out done.written new × Are old new × (output ≡ []) × (done.status ≡ Done)
+
+-- no file was read or written
+abbrev pub ReadsNone : Ends → Dones
+ReadsNone AreEnds output done =
+    (done.assembly ≡ None) × (done.source ≡ None) × (done.written ≡ None)
+    × AreEnds output done.status
+
+abbrev pub CellsDone : List ℕ → Dones
+CellsDone assembly output done =
+    (text : List ℕ) × IsFileRead assembly done.assembly text × (done.source ≡ None)
+    × (done.written ≡ None) × TextEnds text CellEnds output done.status
+
+abbrev pub AsmDone : List ℕ → List ℕ → Dones
+AsmDone text out = Rewrites text out IsAssembled
+
+abbrev pub ListDone : Bool → List ℕ → Dones
+ListDone places plan output done =
+    (bytes : List ℕ) × (done.assembly ≡ None) × IsFileRead plan done.source bytes
+    × (done.written ≡ None) × ContainerEnds bytes (ListingEnds places) output done.status
+
+abbrev pub UpgradeDone : List ℕ → List ℕ → Dones
+UpgradeDone plan out = Rewrites plan out IsUpgradeOf
+
+abbrev pub CheckDone : List ℕ → List ℕ → Dones
+CheckDone assembly plan = ReadsBoth assembly plan (λ text bytes. PlanEnds Check text bytes [])
+
+abbrev pub JudgeDone : LineEnd → ℕ → Left → Dones
+JudgeDone end separator left = ReadsNone (JudgeCommand end separator left)
+
+abbrev pub AnsweredDone : Task → Left → List ℕ → List ℕ → Dones
+AnsweredDone task left assembly plan = ReadsBoth assembly plan (λ text bytes output status.
+    (answers : List ℕ) × IsWholeInput left.old left.new left.failed answers
+    × PlanEnds task text bytes answers output status)
+
+abbrev pub StepDone : Left → List ℕ → List ℕ → Dones
+StepDone left assembly plan = ReadsBoth assembly plan (StepTextEnds left)
+
+abbrev pub DriveDone : Left → List ℕ → List ℕ → Dones
+DriveDone left assembly plan = ReadsBoth assembly plan (λ text bytes output status.
+    (input : PlanInput) × IsPlanInput bytes input × DriveTextEnds left text input output status)
+
+abbrev pub WhyDone : List ℕ → List ℕ → Dones
+WhyDone assembly text = ReadsBoth assembly text (λ drawing plan. NotedEnds Check drawing plan [])
+
+abbrev pub TraceDone : Left → List ℕ → List ℕ → Dones
+TraceDone left assembly text = ReadsBoth assembly text (λ drawing plan output status.
+    (answers : List ℕ) × IsWholeInput left.old left.new left.failed answers
+    × TracedEnds drawing plan answers output status)
+
+-- `frames`: the text was filled in, and notes were printed
+abbrev pub FramesDone : List ℕ → List ℕ → List ℕ → Dones
+FramesDone assembly text out output done =
+    (drawing plan new : List ℕ) × IsFileRead assembly done.assembly drawing
+    × IsFileRead text done.source plan × IsFileWritten out done.written new
+    × IsFilledIn plan new × IsDone (code_of done.status)
+
+-- `plan`: a plan text was made of a sheet
+abbrev pub PlanSheetDone : List ℕ → List ℕ → List ℕ → Dones
+PlanSheetDone assembly sheet out output done =
+    (drawing moves new : List ℕ) × IsFileRead assembly done.assembly drawing
+    × IsFileRead sheet done.source moves × IsFileWritten out done.written new
+    × MakesPlanOf drawing moves new × (output ≡ []) × (done.status ≡ Done)
+
+abbrev pub ExplainDone : List ℕ → Dones
+ExplainDone line = ReadsNone (ExplainEnds line)
+
+-- Of each command
+
+-- how it is done, with its files; the names of a list have a tab between them and a line feed after
+-- them, or a byte 0 after each
+abbrev pub JobDone : Left → Job → Dones
+JobDone left (jobs.Cells assembly) = CellsDone assembly.now
+JobDone left (jobs.Assemble text out) = AsmDone text.now out.now
+JobDone left (jobs.List plan places) = ListDone places plan.now
+JobDone left (jobs.Upgrade plan out) = UpgradeDone plan.now out.now
+JobDone left (jobs.Check assembly plan) = CheckDone assembly.now plan.now
+JobDone left (jobs.Judge false) = JudgeDone LineFeed 9 left
+JobDone left (jobs.Judge true) = JudgeDone SecondNul 0 left
+JobDone left (jobs.Run assembly plan) = AnsweredDone Run left assembly.now plan.now
+JobDone left (jobs.Try assembly plan) = AnsweredDone Try left assembly.now plan.now
+JobDone left (jobs.Step assembly plan) = StepDone left assembly.now plan.now
+JobDone left (jobs.Drive assembly plan) = DriveDone left assembly.now plan.now
+JobDone left (jobs.Why assembly text) = WhyDone assembly.now text.now
+JobDone left (jobs.Trace assembly text) = TraceDone left assembly.now text.now
+JobDone left (jobs.Frames assembly text out) = FramesDone assembly.now text.now out.now
+JobDone left (jobs.PlanSheet assembly sheet out) = PlanSheetDone assembly.now sheet.now out.now
+JobDone left (jobs.Explain line) = ExplainDone (string_bytes line)
+
+-- what it prints, with which status, for some bytes of its files
 abbrev pub JobEnds : Left → Job → Ends
 JobEnds left (jobs.Cells assembly) = CellsCommand
 JobEnds left (jobs.Assemble text out) = AsmCommand

@@ -12,8 +12,8 @@ use Rattle.burr_runs.specs.Views.ReadWhole.{IsWholeInput}
 use Rattle.burr_runs.specs.Rules.Output.{IsOutput}
 use Rattle.burr_runs.specs.Views.BenchText.{Streams, Succeeds, Fails}
 use Rattle.burr_judge.specs.declared.fault.Fault.{Fault}
-use Rattle.burr_judge.specs.declared.refused.Status.{Status}
-use Rattle.burr_judge.specs.declared.refused.Status.TheVariants.{Done, CommandLine}
+use Rattle.burr_judge.specs.declared.status.Status.{Status}
+use Rattle.burr_judge.specs.declared.status.Status.TheVariants.{Done, CommandLine}
 use Rattle.burr_judge.specs.Faults.{complaint_of, status_of_complaint, line_of, status_of_fault, output_failed}
 use Rattle.burr_judge.specs.Statuses.{code_of, status_of}
 use Rattle.burr_judge.specs.PlanEnds.{Ends}
@@ -134,20 +134,20 @@ DoesJob s complaints status job =
     × (Prints (JobEnds (left_of s) job) (sink_of s) complaints told status
     ⊎ ((fault : Fault) × TellsFault complaints told status fault × StopsJob job s (line_of fault)))
 
--- some text, for help and the version
-abbrev pub IsHelp : Ends
-IsHelp output status = status ≡ Done
+-- a text, with status 0
+abbrev pub IsText : List ℕ → Ends
+IsText text output status = (output ≡ text) × (status ≡ Done)
 
--- help or the version was printed; or what is wrong with the words was told; or a fault
-abbrev pub Replies : Taken → Taken → ℕ → Type 0
-Replies sink complaints status =
-    Prints IsHelp sink complaints [] status
-    ⊎ ((status ≡ code_of CommandLine) × TakesNothing sink
-    × ((text : List ℕ) × TakesText complaints text))
+-- the text of a reply was printed, or standard output failed in it; or the text is that of a fault
+abbrev pub Replies : List ℕ → Taken → Taken → ℕ → Type 0
+Replies text sink complaints status =
+    Prints (IsText text) sink complaints [] status
     ⊎ ((fault : Fault) × TellsFault complaints [] status fault
-    × (FailsToPrint IsHelp sink ⊎ TakesNothing sink))
+    × (((line_of fault ≡ output_failed) × FailsToPrint (IsText text) sink)
+    ⊎ ((line_of fault ≡ text) × TakesNothing sink)))
 
 -- The words were answered: by a reply, or by a job that was done.
 abbrev pub IsEnd : Streams → Taken → ℕ → Type 0
 IsEnd s complaints status =
-    Replies (sink_of s) complaints status ⊎ ((job : Job) × DoesJob s complaints status job)
+    ((text : List ℕ) × Replies text (sink_of s) complaints status)
+    ⊎ ((job : Job) × DoesJob s complaints status job)

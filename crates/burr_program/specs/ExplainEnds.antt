@@ -3,7 +3,7 @@ use Rattle.std.specs.Prelude.{◌≡◌, ◌⊎◌, ℕ, List, Contains}
 use Rattle.burr_explain.specs.declared.explanation.Explanation.{Explanation}
 use Rattle.burr_explain.specs.Asked.{IsKeyOf, IsAskedBy, known_keys}
 use Rattle.burr_explain.specs.Layout.{explanation_text}
-use Rattle.burr_judge.specs.declared.refused.Status.TheVariants.{Done}
+use Rattle.burr_judge.specs.declared.status.Status.TheVariants.{Done}
 use Rattle.burr_judge.specs.Faults.{not_explained, output_failed}
 use Rattle.burr_judge.specs.PlanEnds.{Ends}
 

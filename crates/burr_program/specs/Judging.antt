@@ -3,7 +3,7 @@ use Rattle.std.specs.Prelude.{◌≡◌, ℕ, List, Bool, true, Result, Ok, Err}
 use Rattle.burr_io.specs.Sink.{SinkView, Takes, FailsWithin}
 use Rattle.burr_judge.specs.declared.commands.StepFault.{StepFault}
 use Rattle.burr_judge.specs.declared.commands.StepFault.TheVariants.{Write}
-use Rattle.burr_judge.specs.declared.refused.Status.{Status}
+use Rattle.burr_judge.specs.declared.status.Status.{Status}
 use Rattle.burr_program.specs.declared.commands.judge.Said.{Said}
 use Rattle.burr_program.specs.declared.commands.judge.Said.TheVariants as said
 use Rattle.burr_program.specs.ListEnds.{Tally, tallied, judged_line}

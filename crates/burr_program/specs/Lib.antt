@@ -1,11 +1,9 @@
-pub mod AddedNotes
 pub mod CellEnds
 pub mod Commands
 pub mod Ends
 pub mod ExplainEnds
 pub mod ExplainLaws
-pub mod Filling
-pub mod HandedOn
+pub mod Finishing
 pub mod HowFar
 pub mod Judging
 pub mod ListEnds

@@ -5,12 +5,12 @@ use Rattle.burr_text.specs.Words.{IsCutAt}
 use Rattle.burr_runs.specs.declared.input.BenchFault.{BenchFault}
 use Rattle.burr_runs.specs.Views.BenchText.{Streams}
 use Rattle.burr_judge.specs.declared.dialogue.TheConstants.{KEPT}
-use Rattle.burr_judge.specs.declared.ladder.Given.{Given}
+use Rattle.burr_judge.specs.declared.plan_input.PlanInput.{PlanInput}
 use Rattle.burr_judge.specs.declared.dialogue.LineEnd.{LineEnd}
-use Rattle.burr_judge.specs.declared.refused.Status.{Status}
-use Rattle.burr_judge.specs.declared.refused.Status.TheVariants.{Done, Refused, Failed, Memory}
+use Rattle.burr_judge.specs.declared.status.Status.{Status}
+use Rattle.burr_judge.specs.declared.status.Status.TheVariants.{Done, Refused, Failed, Memory}
 use Rattle.burr_judge.specs.Faults.{complaint_of}
-use Rattle.burr_judge.specs.Ladder.{IsGivenBy}
+use Rattle.burr_judge.specs.Inputs.{IsPlanInput}
 use Rattle.burr_judge.specs.PlanEnds.{Ends, CheckTextEnds}
 use Rattle.burr_judge.specs.Statuses.{code_of}
 use Rattle.burr_judge.specs.StepEnds.{Left}
@@ -33,7 +33,7 @@ IsPair separator line = (assembly plan : List ℕ) × ArePair separator line ass
 -- what `check` prints, for some bytes of the two files, with its status
 abbrev pub PairEnds : Ends
 PairEnds output status =
-    (text bytes : List ℕ) × (plan : Given) × IsGivenBy bytes plan × CheckTextEnds text plan output status
+    (text bytes : List ℕ) × (plan : PlanInput) × IsPlanInput bytes plan × CheckTextEnds text plan output status
 
 -- what is said of a line, and with which status: it is no pair; or its plan is judged; or a file can't
 -- be read; or memory was refused
@@ -44,23 +44,23 @@ LineEnds separator line output status =
     ⊎ ((output ≡ codes "cannot read\n") × (status ≡ Failed))
     ⊎ ((output ≡ codes "no memory\n") × (status ≡ Memory))))
 
--- what stands between two names, how many lines were judged, as far as 64 bits count, and the worst
+-- what stands between two names, how many lines were judged, as far as 64 bits count, and the greatest
 -- status among theirs
 pub record Tally : Type 0 where
   pub separator : ℕ
   pub count : ℕ
-  pub worst : Status
+  pub status : Status
 
 -- the status of the greater number
-abbrev pub worse : Status → Status → Status
-worse a b = if nat_lt (code_of a) (code_of b) then b else a
+abbrev pub max_status : Status → Status → Status
+max_status a b = if nat_lt (code_of a) (code_of b) then b else a
 
 -- one line more, with this status
 abbrev pub tallied : Tally → Status → Tally
 tallied old status = record {
   separator = old.separator;
   count = min (old.count + 1) (2 ^ 64 - 1);
-  worst = worse old.worst status;
+  status = max_status old.status status;
 }
 
 -- the line of a judgement: its number, its status, and what is said
@@ -83,14 +83,14 @@ AsksNothing tally line = ⊥
 
 -- nothing was judged
 abbrev pub none_judged : ℕ → Tally
-none_judged separator = record { separator = separator; count = 0; worst = Done }
+none_judged separator = record { separator = separator; count = 0; status = Done }
 
--- `judge`: each line that the source gave is answered, and the status is the worst of theirs
+-- `judge`: each line that the source gave is answered, and the status is the greatest of theirs
 abbrev pub JudgeCommand : LineEnd → ℕ → Left → Ends
 JudgeCommand end separator left output status =
     (new : Tally)
     × IsDialogue end AnswersPair (none_judged separator) left.old left.new output new
-    × (status ≡ new.worst)
+    × (status ≡ new.status)
 
 -- and where it breaks off
 abbrev pub JudgeCommandBreaks : LineEnd → ℕ → Streams → List ℕ → Type 0

@@ -2,6 +2,8 @@
 -- or with what `check` or `try` prints of the container.
 use Rattle.std.specs.Prelude.{◌≡◌, ◌++◌, ℕ, List}
 use Rattle.burr_judge.specs.declared.tasks.Task.{Task}
+use Rattle.burr_judge.specs.declared.tasks.Task.TheVariants.{Try}
+use Rattle.burr_lines.specs.FilledTexts.{IsFilledIn}
 use Rattle.burr_judge.specs.PlanEnds.{Ends, TaskEnds, ContainerEnds, PlanTextEnds, TextEnds}
 
 -- what is printed begins with what is printed where it ends so, and the status is the same
@@ -14,3 +16,9 @@ Begins AreEnds output status =
 abbrev pub NotedEnds : Task → List ℕ → List ℕ → List ℕ → Ends
 NotedEnds task text plan answers = Begins (TextEnds text (λ a.
     PlanTextEnds plan (λ bytes. ContainerEnds bytes (λ kept. TaskEnds task kept a answers))))
+
+-- The same of `trace`, whose plan text may have `auto` in place of frames: the text is run with frames
+-- that say nothing there.
+abbrev pub TracedEnds : List ℕ → List ℕ → List ℕ → Ends
+TracedEnds text plan answers output status =
+    (framed : List ℕ) × IsFilledIn plan framed × NotedEnds Try text framed answers output status

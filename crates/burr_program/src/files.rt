@@ -1,6 +1,7 @@
 //! Files that are read and written whole.
 
-use crate::notes::Named;
+ghost use Rattle.std.specs.Prelude.{◌≡◌, IfOk};
+
 use burr_io::Reading;
 use burr_judge::Fault;
 use burr_runs::{BenchFault, read_whole};
@@ -10,95 +11,111 @@ use std::os::unix::fs::MetadataExt;
 use std::rt::Files;
 use std::{fs, io};
 
-/// How many names are tried for a file beside another one.
-const MOST_NAMES: u32 = 100;
+/// The most names that are tried for a file beside another one.
+const MAX_NAMES: u32 = 100;
 
-/// The bytes of a file of at most 16,777,216 bytes.
+/// A file that was read: the name that it was read by, and its bytes. `read_file` alone makes one.
+#[derive(Drop)]
+pub struct SourceFile<'a> {
+    name: &'a str,
+    bytes: Vec<u8>,
+}
+
+impl<'a> SourceFile<'a> {
+    ghost use Rattle.std.specs.Prelude.{◌≡◌};
+
+    /// Returns the name, as it was given.
+    pub fn name(&self) -> &'a str
+        ensures { result.now ≡ self.entry.now.name.now }
+    {
+        self.name
+    }
+
+    /// Returns the bytes.
+    pub fn bytes(&self) -> &[u8]
+        ensures { result.now ≡ self.now.bytes.items }
+    {
+        &self.bytes
+    }
+
+    /// Returns the bytes, and drops the name.
+    pub fn into_bytes(self) -> Vec<u8>
+        ensures { result ≡ self.entry.bytes }
+    {
+        self.bytes
+    }
+}
+
+/// A file that was written whole: its name, and its bytes. `write_file` alone makes one.
+#[derive(Drop)]
+pub struct WrittenFile<'a> {
+    name: &'a str,
+    bytes: Vec<u8>,
+}
+
+/// Reads a file of at most 16,777,216 bytes.
+///
+/// # Errors
+/// `Read` if it can't be read or is longer, `Memory` if out of memory.
 pub fn read_file<'a, F: Files + AllocGlobal>(
     files: &F,
-    path: &'a str,
-) -> Result<Vec<u8>, Fault<'a>> {
-    let file = fs::open(files, path).map_err(|error| fault_of(error, Fault::Read(path)))?;
+    name: &'a str,
+) -> Result<SourceFile<'a>, Fault<'a>>
+    ensures { IfOk result (λ file. file.name.now ≡ name.entry.now) }
+{
+    let file = fs::open(files, name).map_err(|error| fault_of(error, Fault::Read(name)))?;
     match read_whole(files.alloc(), &mut Reading::new(file)) {
-        Ok(bytes) => Ok(bytes),
+        Ok(bytes) => Ok(SourceFile { name, bytes }),
         Err(BenchFault::Memory) => Err(Fault::Memory),
-        Err(_) => Err(Fault::Read(path)),
+        Err(_) => Err(Fault::Read(name)),
     }
 }
 
-/// A text that was read, with the name of its file.
-#[derive(Drop)]
-pub struct TextFile<'a> {
-    pub file: &'a str,
-    pub bytes: Vec<u8>,
-}
-
-impl TextFile<'_> {
-    /// The text, lent with its name.
-    pub fn named(&self) -> Named<'_> {
-        Named {
-            file: self.file,
-            text: &self.bytes,
-        }
-    }
-}
-
-/// The same with the file's name.
-pub fn read_text<'a, F: Files + AllocGlobal>(
+/// Checks that a file to be written is none of the inputs, each of which has its word of the usage.
+///
+/// # Errors
+/// `OutIsInput` with the first input that is the same file.
+pub fn check_out_not_input<'a, F: Files>(
     files: &F,
-    file: &'a str,
-) -> Result<TextFile<'a>, Fault<'a>> {
-    let bytes = read_file(files, file)?;
-    Ok(TextFile { file, bytes })
-}
-
-/// A file that is made may not be one that is read; the word of the usage for the second of these.
-pub fn keep_sources<'a, F: Files>(
-    files: &F,
-    assembly: &str,
-    (word, source): (&'a str, &str),
+    inputs: &[(&'static str, &str)],
     out: &'a str,
 ) -> Result<(), Fault<'a>> {
-    if are_one_file(files, assembly, out) {
-        return Err(Fault::OutIsInput("ASSEMBLY", out));
-    }
-    if are_one_file(files, source, out) {
-        return Err(Fault::OutIsInput(word, out));
+    for (word, name) in inputs {
+        if is_same_file(files, name, out) {
+            return Err(Fault::OutIsInput(word, out));
+        }
     }
     Ok(())
 }
 
-/// What a file is to hold that is made.
-pub trait Content {
-    ghost use Rattle.std.specs.Prelude.{ℕ, List};
-
-    /// The bytes that it may hold.
-    ghost holds: { Self → List ℕ → Type 0 };
-}
-
-/// Makes a file of these bytes, which are such a content. A file that has the name is replaced whole:
-/// the bytes are written to a new file beside it, which then takes its name, so that a fault leaves the
-/// old one as it was. What has the name and is no regular file, as a pipe or a device, is written to as
-/// it stands.
-pub fn write_file<'a, F: Files + AllocGlobal, C: Content>(
+/// Writes a file. A regular file of that name is replaced whole: the bytes go to a new file beside it, which
+/// then takes its name, so a fault leaves the old one as it was. Anything else of that name, as a pipe or a
+/// device, is written to directly.
+///
+/// # Errors
+/// `Write` if it can't be written, `Memory` if out of memory.
+pub fn write_file<'a, F: Files + AllocGlobal>(
     files: &F,
-    path: &'a str,
-    _content: &C,
-    bytes: &[u8],
-) -> Result<(), Fault<'a>>
-    requires { C.holds _content.now bytes.now }
+    name: &'a str,
+    bytes: Vec<u8>,
+) -> Result<WrittenFile<'a>, Fault<'a>>
+    ensures name { IfOk result (λ file. file.name.now ≡ name.entry.now) }
+    ensures bytes { IfOk result (λ file. file.bytes.items ≡ bytes.items) }
 {
-    let written = match fs::metadata(files, path) {
-        Ok(old) if old.is_file() => replace(files, path, old.permissions(), bytes),
-        Ok(_) => fs::write(files, path, bytes),
-        Err(error) if error.kind() == ErrorKind::NotFound => make(files, path, None, bytes),
+    let written = match fs::metadata(files, name) {
+        Ok(old) if old.is_file() => replace(files, name, old.permissions(), &bytes),
+        Ok(_) => fs::write(files, name, &*bytes),
+        Err(error) if error.kind() == ErrorKind::NotFound => make(files, name, None, &bytes),
         Err(error) => Err(error),
     };
-    written.map_err(|error| fault_of(error, Fault::Write(path)))
+    match written {
+        Ok(()) => Ok(WrittenFile { name, bytes }),
+        Err(error) => Err(fault_of(error, Fault::Write(name))),
+    }
 }
 
 /// Whether two paths are one, or lead to one regular file.
-pub fn are_one_file<F: Files>(files: &F, path: &str, other: &str) -> bool {
+fn is_same_file<F: Files>(files: &F, path: &str, other: &str) -> bool {
     if path == other {
         return true;
     }
@@ -108,8 +125,8 @@ pub fn are_one_file<F: Files>(files: &F, path: &str, other: &str) -> bool {
     }
 }
 
-/// Replaces a file with these permissions that a path leads to, perhaps by links; one that may not be
-/// written is left alone.
+/// Replaces a file with these permissions that a path leads to, perhaps by links. A file that nobody may
+/// write is left alone.
 fn replace<F: Files + AllocGlobal>(
     files: &F,
     path: &str,
@@ -123,7 +140,7 @@ fn replace<F: Files + AllocGlobal>(
     make(files, path.as_path().as_str(), Some(permissions), bytes)
 }
 
-/// Makes a file of these bytes beside a path, and gives it the path's name once it is whole.
+/// Makes a file of these bytes beside a path, and renames it to the path once it is whole.
 fn make<F: Files + AllocGlobal>(
     files: &F,
     path: &str,
@@ -141,7 +158,7 @@ fn make<F: Files + AllocGlobal>(
     made
 }
 
-/// Writes bytes to a new file, as far as the device that holds it.
+/// Writes bytes to a new file, down to the device that holds it.
 fn fill<O: OpenFile + Write>(
     file: &mut O,
     permissions: Option<Permissions>,
@@ -154,9 +171,9 @@ fn fill<O: OpenFile + Write>(
     file.sync_all()
 }
 
-/// A new file beside a path, with its name and a number.
+/// Makes a new file beside a path, with its name and a number.
 fn new_beside<F: Files + AllocGlobal>(files: &F, path: &str) -> io::Result<(String, F::File)> {
-    for number in 0..MOST_NAMES {
+    for number in 0..MAX_NAMES {
         let name = format!(in files.alloc(); "{path}.new{number}")?;
         match File::create_new(files, name.as_str()) {
             Ok(file) => return Ok((name, file)),
@@ -167,7 +184,7 @@ fn new_beside<F: Files + AllocGlobal>(files: &F, path: &str) -> io::Result<(Stri
     Err(io::Error::from(ErrorKind::AlreadyExists))
 }
 
-/// Want of memory where the error says that, else this fault.
+/// Returns `Memory` if the error says that, else this fault.
 fn fault_of<'a>(error: io::Error, fault: Fault<'a>) -> Fault<'a> {
     match error.kind() {
         ErrorKind::OutOfMemory => Fault::Memory,

@@ -1,182 +1,196 @@
-//! Notes for people, below what is printed for a command on two texts.
+//! Notes for people below a refusal: the lines at fault, what was compared there, and what the refusal means.
 
-ghost use Rattle.std.specs.Prelude.{◌++◌, codes};
-ghost use Rattle.burr_runs.specs.Rules.Refusals.{place_line};
-ghost use Rattle.burr_judge.specs.PlanEnds.{EndsOn, IsRefusal};
-ghost use Rattle.burr_judge.specs.Refusals.{refusal_line};
-ghost use Rattle.burr_program.specs.AddedNotes.{AddsNotes, PutsKept};
-ghost use Rattle.burr_program.specs.NotedEnds.{Begins};
+ghost use Rattle.std.specs.Prelude.{◌≡◌, false, IfErr, IfOk};
+ghost use Rattle.burr_asm.specs.Rules.Assembling.{IsAssembled};
+ghost use Rattle.burr_assembly.specs.Rules.Text.{IsText};
+ghost use Rattle.burr_container.specs.Views.Containers.{HasPlan};
+ghost use Rattle.burr_runs.specs.Rules.Verdicts.{IsPassedBy, IsVerdictLine};
+ghost use Rattle.burr_verify.specs.Rules.Accepting.{judged, IsAccepted};
+ghost use Rattle.burr_judge.specs.Inputs.{RefusesPlanBytes};
+ghost use Rattle.burr_judge.specs.PlanEnds.{TryEnds};
+ghost use Rattle.burr_judge.specs.Stops.{Noted, Refuses, RefusesText};
+ghost use Rattle.burr_judge.specs.declared.status.Status.TheVariants as statuses;
 
+use crate::files::SourceFile;
+use burr_asm::assemble;
 use burr_assembly::Assembly;
+use burr_blocking::Blocking;
 use burr_container::Container;
 use burr_explain::explanation_of;
-use burr_io::{Sink, put_all};
-use burr_judge::{Fault, Refuse, Refused, Status, refuse};
+use burr_io::Kept;
+use burr_judge::{Refused, Status, Stop, judge_plan, read_assembly, try_plan};
 use burr_lines::Unframed;
-use burr_verify::Refusal;
+use burr_runs::Observer;
+use burr_verify::{Accepted, Refusal};
 use burr_why::{PlanText, expectation_of_line, reason_of_line, reason_of_refusal};
 use std::alloc::{AllocError, Global};
 
-/// A text, with the name of its file.
-#[derive(Clone, Copy)]
-pub struct Named<'x> {
-    pub file: &'x str,
-    pub text: &'x [u8],
-}
+impl<'x> SourceFile<'x> {
+    ghost use Rattle.std.specs.Prelude.{◌≡◌};
 
-impl<'x> Named<'x> {
-    /// The text as that of a plan, beside the container that it is assembled to, and an assembly.
+    /// Returns the text as that of a plan, with its container and its assembly.
     pub fn beside<'c>(
-        &self,
+        &'x self,
         container: &'x Container<'c>,
         assembly: &'x Assembly,
-    ) -> PlanText<'x, 'c> {
+    ) -> PlanText<'x, 'c>
+        ensures { result.container.now ≡ container.entry.now }
+    {
         PlanText {
-            file: self.file,
-            text: self.text,
+            file: self.name(),
+            text: self.bytes(),
             container,
             assembly,
         }
     }
 }
 
-/// Refuses with notes, of an assembly's text and a plan text.
-#[derive(Clone, Copy)]
-pub struct Noting<'x> {
-    pub drawing: Named<'x>,
-    pub plan: Named<'x>,
-}
-
-impl<'x, W: Sink> Refuse<W> for Noting<'x> {
-    ghost use Rattle.burr_judge.specs.PlanEnds.{EndsOn, IsRefusal};
-    ghost use Rattle.burr_program.specs.NotedEnds.{Begins};
-
-    ghost refuses = { λ _ before line r after.
-        EndsOn W.Sink before after (Begins (IsRefusal line)) r };
-
-    fn refuse<'a>(
-        &self,
-        alloc: Global,
-        refused: &Refused<'_, '_>,
-        sink: &mut W,
-    ) -> Result<Status, Fault<'a>> {
-        let notes = self.notes_of(alloc, refused)?;
-        refuse_with_notes(refused, &notes, sink)
-    }
-}
-
-impl Noting<'_> {
-    /// Why something is refused.
-    #[inline(never)]
-    fn notes_of(&self, alloc: Global, refused: &Refused<'_, '_>) -> Result<String, AllocError> {
-        match refused {
-            Refused::Assembly(_, fault) => {
-                reason_of_fault(alloc, self.drawing, fault.code_and_line())
-            }
-            Refused::PlanText(fault) => reason_of_fault(alloc, self.plan, fault.code_and_line()),
-            Refused::Plan {
-                container,
-                assembly,
-                refusal,
-            } => reason_of_refused_plan(alloc, self.plan.beside(container, assembly), refusal),
-            Refused::Container(_) | Refused::Answers(_) | Refused::Line(..) => {
-                Ok(String::new(alloc))
-            }
+/// Reads the assembly's text of a file. A refusal has notes.
+pub fn read_noted<'y>(alloc: Global, drawing: &SourceFile<'_>) -> Result<Assembly, Stop<'y>>
+    ensures ok { IfOk result (IsText drawing.now.bytes.items) }
+    ensures err { IfErr result (Refuses (Noted (RefusesText drawing.now.bytes.items))) }
+{
+    match read_assembly(alloc, drawing.bytes()) {
+        Ok(assembly) => Ok(assembly),
+        Err(stop) => {
+            let notes = reason_of_text(alloc, &stop, drawing)?;
+            Err(stop.with_notes(notes))
         }
     }
 }
 
-/// Refuses, and puts notes below.
-pub fn refuse_with_notes<'a, W: Sink>(
-    refused: &Refused<'_, '_>,
-    notes: &str,
-    sink: &mut W,
-) -> Result<Status, Fault<'a>>
-    ensures { EndsOn W.Sink sink.old sink.new (Begins (IsRefusal (refusal_line refused.now)))
-        result }
+/// Assembles a plan text, which is that of a file but for its frames. A refusal has notes.
+pub fn assemble_noted<'y>(
+    alloc: Global,
+    source: &SourceFile<'_>,
+    text: &[u8],
+) -> Result<Vec<u8>, Stop<'y>>
+    ensures ok { IfOk result (λ bytes. IsAssembled text.now bytes.items) }
+    ensures err { IfErr result (Refuses (Noted (RefusesPlanBytes text.now))) }
 {
-    let done = refuse(refused, sink);
-    add_notes(done, notes, sink)
+    match assemble(alloc, text) {
+        Ok(bytes) => Ok(bytes),
+        Err(fault) => {
+            let stop = Stop::from(fault);
+            let notes = reason_of_text(alloc, &stop, source)?;
+            Err(stop.with_notes(notes))
+        }
+    }
 }
 
-/// Refuses a line of a text, as `refused sheet line 3`, and says why.
-pub fn refuse_line<'a, W: Sink>(
+/// Judges the container's plan of a file for the assembly of these tables. A refusal has notes.
+pub fn judge_noted<'p, 'c: 'p, 'y, B: Blocking>(
     alloc: Global,
-    subject: &str,
-    named: Named<'_>,
+    source: &SourceFile<'_>,
+    container: &'p Container<'c>,
+    tables: &'p B,
+) -> Result<(Accepted<'p, 'c, B>, u64), Stop<'y>>
+    requires plan { HasPlan container.now }
+    ensures ok { IfOk result (λ counted.
+        counted.0.judged ≡ judged container.entry.now (B.subject tables.entry.now)) }
+    ensures accepted { IfOk result (λ counted. IsAccepted counted.0.judged) }
+    ensures passed { IfOk result (λ counted.
+        IsPassedBy container.entry.now (B.subject tables.entry.now) counted.1) }
+    ensures err { IfErr result (Refuses (Noted
+        (IsVerdictLine container.entry.now (B.subject tables.entry.now) false))) }
+{
+    match judge_plan(container, tables) {
+        Ok(counted) => Ok(counted),
+        Err(stop) => {
+            let plan = source.beside(container, tables.assembly());
+            let notes = reason_of_stop(alloc, &stop, plan)?;
+            Err(stop.with_notes(notes))
+        }
+    }
+}
+
+/// Runs a plan on the bench, and returns the sheet and the status. A refusal has notes.
+#[inline(never)]
+pub fn try_noted<'y, B: Blocking, O: Observer>(
+    alloc: Global,
+    plan: PlanText<'_, '_>,
+    tables: &B,
+    answers: &[u8],
+    observer: &mut O,
+) -> Result<(Status, Vec<u8>), Stop<'y>>
+    ensures ok { IfOk result (λ tried.
+        TryEnds plan.entry.container.now (B.subject tables.now) answers.now tried.1.items tried.0) }
+    ensures err { IfErr result (Refuses (Noted (λ text. TryEnds plan.entry.container.now
+        (B.subject tables.now) answers.now text statuses.Refused))) }
+{
+    let mut sheet = Kept::new(alloc);
+    match try_plan(alloc, plan.container, tables, answers, observer, &mut sheet) {
+        Ok(status) => Ok((status, sheet.into_bytes())),
+        Err(Stop::Fault(_)) => Err(Stop::from(AllocError)),
+        Err(Stop::Refused(refused, before)) => {
+            let stop = Stop::Refused(refused, before);
+            let notes = reason_of_stop(alloc, &stop, plan)?;
+            Err(stop.with_notes(notes))
+        }
+    }
+}
+
+/// Returns the refusal of a line of a file, as `refused sheet line 3`, with notes that say why.
+pub fn refuse_line<'y>(
+    alloc: Global,
+    subject: &'y str,
+    source: &SourceFile<'_>,
     line: usize,
     note: &str,
-    sink: &mut W,
-) -> Result<Status, Fault<'a>>
-    ensures { EndsOn W.Sink sink.old sink.new
-        (Begins (IsRefusal (place_line subject.now (codes "line") line))) result }
-{
-    let mut reason = reason_of_line(alloc, named.file, named.text, line)?;
+) -> Result<Stop<'y>, AllocError> {
+    let mut reason = reason_of_line(alloc, source.name(), source.bytes(), line)?;
     writeln!(reason, "    {note}")?;
     let notes = with_meaning(reason, subject)?;
-    refuse_with_notes(&Refused::Line(subject, line), &notes, sink)
+    Ok(Stop::Refused(Refused::Line(subject, line), Some(notes)))
 }
 
-/// What was done, once notes are put after what was put for it; after a fault nothing is put.
-pub fn add_notes<'a, W: Sink>(
-    done: Result<Status, Fault<'a>>,
-    notes: &str,
-    sink: &mut W,
-) -> Result<Status, Fault<'a>>
-    ensures { AddsNotes W.Sink sink.old sink.new notes.now done.entry result }
-{
-    match done {
-        Ok(status) => {
-            put_all(notes.as_bytes(), sink)?;
-            Ok(status)
+/// Returns why a text is refused; nothing for another stop.
+fn reason_of_text(
+    alloc: Global,
+    stop: &Stop<'_>,
+    source: &SourceFile<'_>,
+) -> Result<String, AllocError> {
+    match stop {
+        Stop::Refused(Refused::Line(code, line), _) => reason_of_fault(alloc, source, code, *line),
+        Stop::Refused(Refused::Overlap { line, .. }, _) => {
+            reason_of_fault(alloc, source, "A8", *line)
         }
-        Err(fault) => Err(fault),
+        _ => Ok(String::new(alloc)),
     }
 }
 
-/// Puts what was kept in memory of what was done, and notes after it. Nothing but memory may have been
-/// wanting there, and then nothing is put.
-pub fn put_kept<'a, W: Sink>(
-    done: Result<Status, Fault<'a>>,
-    kept: &[u8],
-    notes: &str,
-    sink: &mut W,
-) -> Result<Status, Fault<'a>>
-    ensures { PutsKept W.Sink sink.old sink.new (kept.now ++ notes.now) done.entry result }
-{
-    match done {
-        Ok(status) => {
-            put_all(kept, sink)?;
-            put_all(notes.as_bytes(), sink)?;
-            Ok(status)
-        }
-        Err(_) => Err(Fault::Memory),
-    }
-}
-
-// Why texts and plans are refused, for people: the lines at fault, what was compared there, and
-// what the refusal means.
-
-/// Why a text is refused, by a fault of this code on this line; want of memory is no fault of a text. Of
-/// a plan text it says what was expected there, and of a line `auto` what that is for.
+/// Returns why a text is refused, by a fault of this code on this line: what was expected there in a plan
+/// text, and of a line `auto` what that is for.
 pub fn reason_of_fault(
     alloc: Global,
-    named: Named<'_>,
-    fault: Option<(&str, usize)>,
+    source: &SourceFile<'_>,
+    code: &str,
+    line: usize,
 ) -> Result<String, AllocError> {
-    let (code, line) = fault.ok_or(AllocError)?;
-    let mut reason = reason_of_line(alloc, named.file, named.text, line)?;
-    if code.starts_with('P') && Unframed::of(alloc, named.text)?.has_auto_at(line) {
+    let mut reason = reason_of_line(alloc, source.name(), source.bytes(), line)?;
+    if code.starts_with('P') && Unframed::of(alloc, source.bytes())?.has_auto_at(line) {
         reason.push_str("    `auto` stands here until `burr frames` fills it in\n")?;
     } else {
-        let expectation = expectation_of_line(alloc, named.file, named.text, code, line)?;
+        let expectation = expectation_of_line(alloc, source.name(), source.bytes(), code, line)?;
         reason.push_str(&expectation)?;
     }
     with_meaning(reason, code)
 }
 
-/// Why a plan is refused, and what the refusal means.
-pub fn reason_of_refused_plan(
+/// Returns why a plan is refused; nothing for another stop.
+fn reason_of_stop(
+    alloc: Global,
+    stop: &Stop<'_>,
+    plan: PlanText<'_, '_>,
+) -> Result<String, AllocError> {
+    match stop {
+        Stop::Refused(Refused::Plan(refused), _) => reason_of_plan(alloc, plan, &refused.refusal),
+        _ => Ok(String::new(alloc)),
+    }
+}
+
+/// Returns why a plan is refused, and what the refusal means.
+pub fn reason_of_plan(
     alloc: Global,
     plan: PlanText<'_, '_>,
     refusal: &Refusal,
@@ -187,7 +201,7 @@ pub fn reason_of_refused_plan(
     with_meaning(reason, &key)
 }
 
-/// A reason, and after it the first sentence of what a refusal of this name means.
+/// Returns a reason, and below it the first sentence of what a refusal of this name means.
 pub fn with_meaning(mut reason: String, key: &str) -> Result<String, AllocError> {
     if let Some(known) = explanation_of(key.as_bytes()) {
         push_sentence(&mut reason, known.meaning)?;

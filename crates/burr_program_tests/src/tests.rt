@@ -1,6 +1,6 @@
 //! The program whole: words and streams in, status, output and complaints out.
 use burr_io::{Reading, WholeLines, Writing};
-use burr_program::run_words;
+use burr_program::{Streams, run_words};
 use std::alloc::{AllocError, Global};
 use std::fs;
 use std::io::{self, Read, Write};
@@ -155,10 +155,12 @@ impl End {
     /// Calls the program over a reader. Few bytes of lines are held back, so that what is long is handed
     /// on in parts.
     fn call<T: Files + AllocGlobal, R: Read + Drop>(&mut self, rt: &T, words: &[String], input: R) {
-        let mut source = Reading::new(input);
-        let mut sink: WholeLines<_, 64> = WholeLines::new(Writing::new(&mut self.output));
-        let mut complaints: WholeLines<_, 64> = WholeLines::new(Writing::new(&mut self.complaint));
-        self.status = run_words(rt, words, &mut source, &mut sink, &mut complaints);
+        let mut io: Streams<_, _, _, 64, 64> = Streams {
+            source: Reading::new(input),
+            sink: WholeLines::new(Writing::new(&mut self.output)),
+            errors: WholeLines::new(Writing::new(&mut self.complaint)),
+        };
+        self.status = run_words(rt, words, &mut io);
     }
 
     /// Whether it ended with this status, and these texts on standard output and standard error.

@@ -1,4 +1,5 @@
 pub mod BenchText
+pub mod NamedRefusals
 pub mod ReadWhole
 pub mod Running
 pub mod AfterRuns

@@ -61,6 +61,7 @@
 mod input;
 mod laws;
 mod lines;
+mod plan_refusal;
 mod runs;
 mod text_runs;
 
@@ -71,8 +72,9 @@ pub use laws::{
     answers_are_read_in_one_way,
 };
 pub use lines::{
-    put_accepted, put_answers_refusal, put_assembly_refusal, put_container_refusal, put_place_line,
-    put_plan_refusal,
+    put_accepted, put_answers_refusal, put_assembly_refusal, put_clash, put_container_refusal,
+    put_place_line,
 };
+pub use plan_refusal::PlanRefusal;
 pub use runs::{Observer, try_observed, try_plan};
 pub use text_runs::{Outcome, bench_text, check, run_plan};

@@ -10,7 +10,8 @@ ghost use Rattle.burr_runs.specs.Rules.Headline.{PutsSafely, FailsSafely, EndsWe
 ghost use Rattle.burr_runs.specs.Rules.Verdicts.{PutsVerdict, FailsInVerdict};
 
 use crate::input::{BenchFault, parse_input, read_whole};
-use crate::lines::{put_accepted, put_assembly_refusal, put_plan_refusal};
+use crate::lines::{put_accepted, put_assembly_refusal};
+use crate::plan_refusal::PlanRefusal;
 use crate::runs::{run, run_bare};
 use burr_assembly::{Assembly, AssemblyFault};
 use burr_bench::{Machine, a_well_framed_plan_runs_safely};
@@ -146,7 +147,7 @@ pub fn check<B: Blocking, W: Sink>(
             Ok(true)
         }
         Err(refusal) => {
-            put_plan_refusal(&refusal, blocking.assembly(), sink)?;
+            PlanRefusal::new(refusal, blocking.assembly()).put(sink)?;
             Ok(false)
         }
     }

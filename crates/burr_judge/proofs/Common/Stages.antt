@@ -4,7 +4,7 @@ use Rattle.std.specs.Prelude.{Result, Ok, Err, IfOk, IfErr}
 use Rattle.burr_io.specs.Sink.{SinkView}
 use Rattle.burr_judge.specs.declared.fault.Fault.{Fault}
 use Rattle.burr_judge.specs.Faults.{line_of}
-use Rattle.burr_judge.specs.declared.refused.Status.{Status}
+use Rattle.burr_judge.specs.declared.status.Status.{Status}
 use Rattle.burr_judge.specs.PlanEnds.{Ends, PutsEnd, FailsToEnd, EndsOn, Ending}
 
 -- all that may be printed at one stage may be printed at the other
@@ -22,6 +22,12 @@ pub fails_among : {S : Type 0} (sink : SinkView S) (before after : S) (These Tho
 fails_among sink before after These Those (Ok status) among fails = tt
 fails_among sink before after These Those (Err fault) among (inl (line, (output, status, is, fails))) = inl (line, (output, status, among output status is, fails))
 fails_among sink before after These Those (Err fault) among (inr want) = inr want
+
+-- all that is told of the one is told of the other
+pub ends_among : {S : Type 0} (sink : SinkView S) (before after : S) (These Those : Ends) (r : Result Status Fault)
+    → AreAmong These Those → EndsOn sink before after These r → EndsOn sink before after Those r
+ends_among sink before after These Those r among (puts, fails) =
+    (puts_among sink before after These Those r among puts, fails_among sink before after These Those r among fails)
 
 -- what is told of a call is told of the command
 pub ending_from : {S : Type 0} (sink : SinkView S) (before after : S) (These Those : Ends) (Breaks : List ℕ → Type 0) (r : Result Status Fault)

@@ -6,32 +6,36 @@ ghost use Rattle.burr_io.specs.WholeLines.{lines_view};
 ghost use Rattle.burr_runs.specs.Views.BenchText.{streams};
 ghost use Rattle.burr_judge.specs.PlanEnds.{never};
 ghost use Rattle.burr_judge.specs.StepEnds.{left_by};
-ghost use Rattle.burr_program.specs.Commands.{EndsOnFiles};
-ghost use Rattle.burr_program.specs.ListEnds.{IsPair, JudgeCommand, JudgeCommandBreaks, LineEnds, PairEnds, judged_line, worse as worse_of};
+ghost use Rattle.burr_judge.specs.Stops.{ResultOn};
+ghost use Rattle.burr_program.specs.Commands.{CommandResult, FileResult, JudgeDone};
+ghost use Rattle.burr_program.specs.ListEnds.{IsPair, JudgeCommand, JudgeCommandBreaks, LineEnds, PairEnds, judged_line, max_status as max_of};
 ghost use Rattle.burr_program.specs.Judging.{TellsJudged, bytes_of};
 
+use crate::done::Done;
 use crate::files::read_file;
 use burr_io::{Kept, Sink, Source, WholeLines, WriteFault, put_all, put_number};
 use burr_judge::{
-    Commanded, Fault, Given, KEPT, LineEnd, ReadText, Status, StepFault, answer_commands,
+    Commanded, Fault, KEPT, LineEnd, PlanInput, ReadText, Status, StepFault, Stop, answer_commands,
+    report,
 };
 use burr_text::cut_at;
 use std::marker::Model;
 use std::rt::Files;
 
-/// Judges the plans of the source's list: each line names an assembly's text and a plan, a container
-/// or a plan text, with a byte between them, and is answered by its number, a status and what `check`
-/// would print, which is handed on before the next line is read. The status is the worst of theirs.
+/// Judges the plans of a list: each line of the source names an assembly's text and a plan, a container or
+/// a text, with a byte between them. It is answered by its number, a status and what `check` would print,
+/// before the next line is read. Returns the greatest status of a line.
 #[inline(never)]
-pub fn judge_list<'a, F: Files + AllocGlobal, R: Source, W: Sink, const N: usize>(
+pub fn judge<'a, F: Files + AllocGlobal, R: Source, W: Sink, const N: usize>(
     files: &F,
     end: LineEnd,
     separator: u8,
     source: &mut R,
     sink: &mut WholeLines<W, N>,
-) -> Result<Status, Fault<'a>>
+) -> Result<Done<'a>, Stop<'a>>
     requires fresh { sink.old.held ≡ [] }
-    ensures { EndsOnFiles (lines_view W.Sink) sink.old sink.new
+    ensures { CommandResult (lines_view W.Sink) sink.old sink.new
+        (JudgeDone end separator (left_by R.Source source.old source.new))
         (JudgeCommand end separator (left_by R.Source source.old source.new))
         (JudgeCommandBreaks end separator
         (streams R.Source source.old source.new W.Sink sink.old.sink sink.new.sink)) result }
@@ -41,13 +45,18 @@ pub fn judge_list<'a, F: Files + AllocGlobal, R: Source, W: Sink, const N: usize
         separator,
         known: None,
         count: 0,
-        worst: Status::Done,
+        status: Status::Done,
     };
     answer_commands(end, &mut judge, source, sink)?;
-    Ok(judge.worst)
+    Ok(Done {
+        status: judge.status,
+        assembly: None,
+        source: None,
+        written: None,
+    })
 }
 
-/// What judges the lines of a list, and counts them.
+/// Judges the lines of a list, and counts them.
 #[derive(Drop)]
 struct ListJudge<'f, F: Files + AllocGlobal> {
     files: &'f F,
@@ -56,7 +65,8 @@ struct ListJudge<'f, F: Files + AllocGlobal> {
     /// The assembly of the line before.
     known: Option<Known>,
     count: u64,
-    worst: Status,
+    /// The greatest status of a line.
+    status: Status,
 }
 
 impl<'f, F: Files + AllocGlobal> Model for ListJudge<'f, F> {
@@ -67,7 +77,7 @@ impl<'f, F: Files + AllocGlobal> Model for ListJudge<'f, F> {
     ghost view = { λ judge. record {
       separator = judge.separator;
       count = judge.count;
-      worst = judge.worst;
+      status = judge.status;
     } };
 }
 
@@ -97,7 +107,7 @@ impl<'f, F: Files + AllocGlobal> ListJudge<'f, F> {
         ensures { TellsJudged W.Sink sink.old sink.new self.old status said.now result self.new }
     {
         self.count = self.count.saturating_add(1);
-        self.worst = worse(self.worst, status);
+        self.status = max_status(self.status, status);
         put_judged(self.count, status, said, sink)?;
         Ok(true)
     }
@@ -135,7 +145,8 @@ fn judge_line<F: Files + AllocGlobal>(
         return (Status::Refused, Said::Instead(b"refused pair\n"));
     };
     let mut said = Kept::new(files.alloc());
-    match judge_pair(files, known, assembly, plan, &mut said) {
+    let done = judge_pair(files, known, assembly, plan, &mut said);
+    match report(done, &mut said) {
         Ok(status) => (status, Said::Printed(said.into_bytes())),
         Err(Fault::Read(_)) => (Status::Failed, Said::Instead(b"cannot read\n")),
         Err(_) => (Status::Memory, Said::Instead(b"no memory\n")),
@@ -149,8 +160,8 @@ fn judge_pair<'a, F: Files + AllocGlobal, W: Sink>(
     assembly: &'a str,
     plan: &'a str,
     sink: &mut W,
-) -> Result<Status, Fault<'a>>
-    ensures { EndsOnFiles W.Sink sink.old sink.new PairEnds never result }
+) -> Result<Status, Stop<'a>>
+    ensures { FileResult W.Sink sink.old sink.new PairEnds result }
 {
     let kept = read_once(files, known.take(), assembly)?;
     let judged = kept.judge(files, plan, sink);
@@ -172,11 +183,12 @@ impl Known {
         files: &F,
         plan: &'a str,
         sink: &mut W,
-    ) -> Result<Status, Fault<'a>>
-        ensures { EndsOnFiles W.Sink sink.old sink.new PairEnds never result }
+    ) -> Result<Status, Stop<'a>>
+        ensures { FileResult W.Sink sink.old sink.new PairEnds result }
     {
-        let bytes = read_file(files, plan)?;
-        self.text.check(files.alloc(), Given::of(&bytes), sink)
+        let source = read_file(files, plan)?;
+        self.text
+            .check(files.alloc(), PlanInput::of(source.bytes()), sink)
     }
 }
 
@@ -191,7 +203,7 @@ fn read_once<'a, F: Files + AllocGlobal>(
             return Ok(kept);
         }
     }
-    let text = ReadText::new(files.alloc(), read_file(files, name)?)?;
+    let text = ReadText::new(files.alloc(), read_file(files, name)?.into_bytes())?;
     let name = Vec::from_slice(files.alloc(), name.as_bytes())?;
     Ok(Known { name, text })
 }
@@ -211,8 +223,8 @@ fn pair_of(separator: u8, line: &[u8]) -> Option<(&str, &str)>
 }
 
 /// The status of the greater number.
-fn worse(a: Status, b: Status) -> Status
-    ensures { result ≡ worse_of a b }
+fn max_status(a: Status, b: Status) -> Status
+    ensures { result ≡ max_of a b }
 {
     if a.code() < b.code() { b } else { a }
 }

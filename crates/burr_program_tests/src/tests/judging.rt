@@ -590,14 +590,16 @@ fn answers_a_line_before_it_reads_the_next(rt: HostRuntime) {
         is_early: Cell::new(false),
     };
     let drips = Drips::of(MIXED);
-    let mut source = Reading::new(Counted {
-        drips,
-        lines: &lines,
-    });
-    let mut sink: WholeLines<_, 4096> = WholeLines::new(Writing::new(Counting { lines: &lines }));
     let mut complaint = Room::new();
-    let mut complaints: WholeLines<_, 64> = WholeLines::new(Writing::new(&mut complaint));
-    let status = run_words(&rt, &words, &mut source, &mut sink, &mut complaints);
+    let mut io: Streams<_, _, _, 4096, 64> = Streams {
+        source: Reading::new(Counted {
+            drips,
+            lines: &lines,
+        }),
+        sink: WholeLines::new(Writing::new(Counting { lines: &lines })),
+        errors: WholeLines::new(Writing::new(&mut complaint)),
+    };
+    let status = run_words(&rt, &words, &mut io);
     assert_case(&rt, "status", status == 3);
     assert_case(&rt, "early", !lines.is_early.get());
     // the last line has no end

@@ -1,11 +1,32 @@
-use Rattle.std.specs.Prelude.{Some}
-use Rattle.burr_judge.specs.DriveEnds.{ReadyEnds}
-use Rattle.burr_judge.specs.OpenEnds.{OpenEnds}
-use Rattle.burr_c.proofs.Printing.{all_handed_on}
+use Rattle.std.proofs.Common.{ap, ◌∙◌, inl, inr, subst, sym}
+use Rattle.burr_judge.specs.DriveEnds.{FailsToBegin, ReadyEnds, ready_text}
+use Rattle.burr_judge.specs.OpenEnds.{OpenBreaks, OpenEnds}
+use Rattle.burr_judge.proofs.Common.Results.{told_ending}
+use Rattle.burr_c.specs.Calls.{IsEitherTooLong}
+use Rattle.burr_c.proofs.Printing.{all_lines_kept, kept_view, not_long}
 use Rattle.burr_c.proofs.printed.print_ready.Goals as goal
 
-pub returns-clause-ok : goal.returns-clause-ok
-returns-clause-ok c =
-    all_handed_on c.new.result c.into_sink.result (record { taken = λ kept. Some kept.bytes.items; has_failed = λ kept. kept.failed }) c.new-lines.result c.open_drive.new.sink c.flush.new.self
-    (OpenEnds (ReadyEnds c.args.text.now c.args.container.now) c.args.text.now c.args.container.now) c.into_bytes.result.items c.in_ok-status.status
-    c.new-lines.ensures.held c.new-lines.ensures.sink c.new.ensures c.into_sink.ensures c.into_bytes.ensures c.in_ok-status.ensures.puts.0 c.in_ok-flush.ensures.puts.ok
+pub returns-in_ok-print_lines-in-Ok-clause-ok : goal.returns-in_ok-print_lines-in-Ok-clause-ok
+returns-in_ok-print_lines-in-Ok-clause-ok c =
+    let ends = OpenEnds (ReadyEnds c.args.text.now c.args.container.now) c.args.text.now c.args.container.now in
+    let printed = c.in_ok-print_lines-in-Ok.field-0 in
+    subst (ends printed.bytes.items) (sym c.in_ok-print_lines-in-Ok.ensures.status)
+    (all_lines_kept ends c.new-lines.result c.open_drive.new.sink printed.bytes.items _ c.new-lines.ensures.held (ap kept_view.taken c.new-lines.ensures.sink ∙ c.new.ensures)
+    c.in_ok-print_lines-in-Ok.ensures.ok c.in-Ok.ensures.puts.done)
+
+pub returns-in_ok-print_lines-in-Err-clause-ok : goal.returns-in_ok-print_lines-in-Err-clause-ok
+returns-in_ok-print_lines-in-Err-clause-ok c =
+    let ends = OpenEnds (ReadyEnds c.args.text.now c.args.container.now) c.args.text.now c.args.container.now in
+    let printed = c.in_ok-print_lines-in-Err.field-0 in
+    let ending = told_ending (λ after. OpenBreaks (FailsToBegin kept_view c.new-lines.result after (ready_text c.args.text.now c.args.container.now)) c.args.text.now c.args.container.now)
+    c.in-Err.ensures.puts c.in_ok-status-in-Err.ensures in
+    subst (ends printed.bytes.items) (sym c.in_ok-print_lines-in-Err.ensures.status)
+    (all_lines_kept ends c.new-lines.result c.report.new.sink printed.bytes.items _ c.new-lines.ensures.held (ap kept_view.taken c.new-lines.ensures.sink ∙ c.new.ensures)
+    c.in_ok-print_lines-in-Err.ensures.ok ending.0)
+
+pub returns-in_err-print_lines-in-Ok-clause-long : goal.returns-in_err-print_lines-in-Ok-clause-long
+returns-in_err-print_lines-in-Ok-clause-long c = not_long c.from_residual.result (IsEitherTooLong c.args.text.now c.args.container.now) short c.from_residual.ensures.1
+  where
+    short : ¬ IsEitherTooLong c.args.text.now c.args.container.now
+    short (inl much) = let yes = c.is_too_long.ensures.1 much in cc
+    short (inr much) = let yes = c.is_too_long-else-is_too_long.ensures.1 much in cc

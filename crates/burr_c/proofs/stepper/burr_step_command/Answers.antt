@@ -2,8 +2,8 @@ use Rattle.std.proofs.Common.{◌≡◌, ◌∙◌, Box, Global, List, Some, [],
 use Rattle.std.specs.Prelude.{Option, Result, Ok, Err, IfOk, IfErr}
 use Rattle.burr_step.specs.Views.Driving.{Driving}
 use Rattle.burr_step.specs.Views.Stepping.{Stepping}
-use Rattle.burr_judge.specs.declared.refused.Status.{Status}
-use Rattle.burr_judge.specs.declared.refused.Status.TheVariants.{Done}
+use Rattle.burr_judge.specs.declared.status.Status.{Status}
+use Rattle.burr_judge.specs.declared.status.Status.TheVariants.{Done}
 use Rattle.burr_c.specs.declared.handle.KeptRun.{KeptRun}
 use Rattle.burr_c.specs.declared.handle.KeptRun.TheVariants.{Drive, Stepper}
 use Rattle.burr_c.specs.declared.printed.CallFault.{CallFault}

@@ -1,28 +1,29 @@
-use Rattle.std.proofs.Common.{◌≢◌, List, ℕ, inl, inr}
-use Rattle.burr_asm.specs.declared.fault.AsmFault.{AsmFault}
-use Rattle.burr_asm.specs.declared.fault.AsmFault.TheVariants.{Memory}
-use Rattle.burr_asm.specs.Rules.Assembling.{IsTextFault}
-use Rattle.burr_asm.specs.Rules.Faults.{IsFirstFault}
-use Rattle.burr_io.specs.WholeLines.{lines_view}
-use Rattle.burr_runs.specs.Views.BenchText.{streams}
-use Rattle.burr_judge.specs.StepEnds.{left_by}
-use Rattle.burr_judge.proofs.SteppedPlans.{assembled_led, faulty_led}
+use Rattle.burr_judge.proofs.Common.Results.{bytes_refused, judged_refused, on_text, on_given, on_accepted, on_plan}
+use Rattle.burr_judge.proofs.Dialogued.{begin_stops, led_done, led_broken}
 use Rattle.burr_judge.proofs.tasks.drive_text.Goals as goal
 
--- a fault of a text that is not want of memory is its first
-first_fault : (text : List ℕ) (fault : AsmFault) → fault ≢ Memory → IsTextFault text fault → IsFirstFault text fault
-first_fault text fault some (inl none) = absurd (some none)
-first_fault text fault some (inr first) = first
+pub returns-in_err-container : goal.returns-in_err-container
+returns-in_err-container g c =
+    on_text c.in_ok-assembly.ensures.ok (on_given c.in_ok-bytes.ensures.ok c.deref-lent.ensures.value (bytes_refused c.in_err-container.ensures c.from_residual-in_err-container.ensures.1))
 
-pub returns-in-Ok : goal.returns-in-Ok
-returns-in-Ok g c =
-    assembled_led (lines_view g.W.Sink) c.args.sink.now c.drive_container-in-Ok.new.sink (left_by g.R.Source c.args.source.now c.drive_container-in-Ok.new.source)
-    (streams g.R.Source c.args.source.now c.drive_container-in-Ok.new.source g.W.Sink c.args.sink.now.sink c.drive_container-in-Ok.new.sink.sink) c.args.text.now c.args.plan
-    c.in-Text.plan_text c.in-Ok.bytes.items c.deref.result.now c.drive_container-in-Ok.result c.in-Text.is c.in-Ok.ensures c.deref.ensures.value c.drive_container-in-Ok.ensures
+pub returns-in_err-accepted : goal.returns-in_err-accepted
+returns-in_err-accepted g c =
+    on_plan c.in_ok-assembly.ensures.ok c.in_ok-bytes.ensures.ok c.deref-lent.ensures.value c.in_ok-container.ensures
+    (judged_refused (rw c.in_ok-tables.ensures at c.in_err-accepted.ensures.err) c.from_residual-in_err-accepted.ensures.1)
 
-pub returns-in-Some : goal.returns-in-Some
-returns-in-Some g c =
-    faulty_led c.args.source.now c.use_text.new.input (lines_view g.W.Sink) c.args.sink.now c.use_text.new.sink (left_by g.R.Source c.args.source.now c.use_text.new.input)
-    (streams g.R.Source c.args.source.now c.use_text.new.input g.W.Sink c.args.sink.now.sink c.use_text.new.sink.sink) c.args.text.now c.args.plan
-    c.in-Text.plan_text c.in-Err.fault c.use_text.result c.in-Text.is (first_fault c.in-Text.plan_text.now c.in-Err.fault c.in-Some.ensures.0 c.in-Err.ensures)
-    c.use_text.ensures
+pub returns-in_err-put_ready : goal.returns-in_err-put_ready
+returns-in_err-put_ready g c =
+    on_plan c.in_ok-assembly.ensures.ok c.in_ok-bytes.ensures.ok c.deref-lent.ensures.value c.in_ok-container.ensures (on_accepted (rw c.in_ok-tables.ensures at c.in_ok-accepted.ensures.ok) c.in_ok-accepted.ensures.accepted
+    (begin_stops g.R.Source c.args.source.now c.args.source.now g.W.Sink c.args.sink.now c.put_ready.new.sink c.args.text.now c.deref-lent.result.now c.in_ok-accepted.accepted.judged c.in_err-put_ready.ensures.err c.from_residual-in_err-put_ready.ensures.1))
+
+pub returns-in_err-answer_commands : goal.returns-in_err-answer_commands
+returns-in_err-answer_commands g c =
+    on_plan c.in_ok-assembly.ensures.ok c.in_ok-bytes.ensures.ok c.deref-lent.ensures.value c.in_ok-container.ensures (on_accepted (rw c.in_ok-tables.ensures at c.in_ok-accepted.ensures.ok) c.in_ok-accepted.ensures.accepted
+    (led_broken g.R.Source c.args.source.now c.answer_commands.new.source g.W.Sink c.args.sink.now c.put_ready.new.sink c.answer_commands.new.sink c.args.text.now c.deref-lent.result.now c.in_ok-accepted.accepted.judged
+    c.new-drive.result c.answer_commands.new.commanded _ c.new-drive.ensures c.in_ok-put_ready.ensures.ok.0 c.in_err-answer_commands.ensures.err c.from_residual-in_err-answer_commands.ensures.1))
+
+pub returns : goal.returns
+returns g c =
+    on_plan c.in_ok-assembly.ensures.ok c.in_ok-bytes.ensures.ok c.deref-lent.ensures.value c.in_ok-container.ensures (on_accepted (rw c.in_ok-tables.ensures at c.in_ok-accepted.ensures.ok) c.in_ok-accepted.ensures.accepted
+    (led_done g.R.Source c.args.source.now c.answer_commands.new.source g.W.Sink c.args.sink.now c.put_ready.new.sink c.answer_commands.new.sink c.args.text.now c.deref-lent.result.now c.in_ok-accepted.accepted.judged
+    c.new-drive.result c.answer_commands.new.commanded _ c.requires.fresh c.in_ok-answer_commands.ensures.held c.new-drive.ensures c.in_ok-put_ready.ensures.ok.0 c.in_ok-answer_commands.ensures.ok c.status_after.ensures))

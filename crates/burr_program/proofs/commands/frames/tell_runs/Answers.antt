@@ -10,6 +10,6 @@ use Rattle.burr_program.proofs.commands.frames.tell_runs.Goals as goal
 pub returns : goal.returns
 returns g c =
     let number : c.as_bytes.result.now ≡ decimal c.args.count = c.as_bytes.ensures.value ∙ c.format.ensures.text in
-    let put = subst (λ (number : List ℕ). Puts (lines_view g.E.Sink) c.args.complaints.now c.put_words.new.sink (text_line (codes "frames:" ∷ number ∷ codes "runs" ∷ [])) c.put_words.result) number c.put_words.ensures in
-    tells g.E.Sink c.args.complaints.now c.put_words.new.sink c.flush.new.self (runs_line c.args.count) c.put_words.result c.flush.result (sym c.failed.ensures ∙ c.if-failed.false) c.requires.ready
+    let put = subst (λ (number : List ℕ). Puts (lines_view g.E.Sink) c.args.errors.now c.put_words.new.sink (text_line (codes "frames:" ∷ number ∷ codes "runs" ∷ [])) c.put_words.result) number c.put_words.ensures in
+    tells g.E.Sink c.args.errors.now c.put_words.new.sink c.flush.new.self (runs_line c.args.count) c.put_words.result c.flush.result (sym c.failed.ensures ∙ c.if-failed.false) c.requires.ready
     put c.flush.ensures.puts c.flush.ensures.nothing c.flush.ensures.for_good

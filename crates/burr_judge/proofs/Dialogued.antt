@@ -1,0 +1,115 @@
+-- How a dialogue about an accepted plan ends, or breaks off, and how a run is opened.
+use Rattle.std.proofs.Common.{◌≡◌, List, ℕ, [], ◌++◌, refl, sym, subst, inl, inr}
+use Rattle.std.specs.Prelude.{Option, Result, Ok, Err, IfOk, IfErr}
+use Rattle.std.specs.Result.{IsErrAnd}
+use Rattle.std.specs.Io.KnownBytes.{Appends, append_known}
+use Rattle.std.proofs.KnownBytes.{Appends-trans}
+use Rattle.burr_io.specs.Sink.{SinkView, Takes}
+use Rattle.burr_io.specs.Source.{SourceView}
+use Rattle.burr_io.specs.WholeLines.{Lines, lines_view}
+use Rattle.burr_io.proofs.Common.Lines.{nothing_held}
+use Rattle.burr_assembly.specs.Rules.Text.{Assembly, IsText}
+use Rattle.burr_container.specs.Views.Containers.{ContainerView}
+use Rattle.burr_verify.specs.Rules.Accepting.{Judged, judged, IsAccepted}
+use Rattle.burr_step.specs.Views.Driving.{Driving, IsReady}
+use Rattle.burr_step.specs.Views.Stepping.{Stepping, IsFresh}
+use Rattle.burr_runs.specs.declared.input.BenchFault.{BenchFault}
+use Rattle.burr_runs.specs.Views.BenchText.{streams}
+use Rattle.burr_judge.specs.Views.Commanding.{StepAnswers, IsAnswerLine}
+use Rattle.burr_judge.specs.Views.DriveLines.{DriveAnswers, AsksNone}
+use Rattle.burr_judge.specs.Views.Dialogues.{EndsDialogue, BreaksDialogue}
+use Rattle.burr_judge.specs.declared.dialogue.LineEnd.TheVariants.{LineFeed}
+use Rattle.burr_judge.specs.declared.status.Status.{Status}
+use Rattle.burr_judge.specs.declared.status.Status.TheVariants.{Done}
+use Rattle.burr_judge.specs.declared.stop.Stop.{Stop}
+use Rattle.burr_judge.specs.declared.stop.Stop.TheVariants as halts
+use Rattle.burr_judge.specs.DriveEnds.{LedEnds, LeavesWith, LedBreaks, FailsToBegin, ready_text}
+use Rattle.burr_judge.specs.Faults.{complaint_of, line_of}
+use Rattle.burr_judge.specs.Inputs.{IsRead}
+use Rattle.burr_judge.specs.OpenEnds.{Beginnings, IsOpened}
+use Rattle.burr_judge.specs.PlanEnds.{Ends, Stops}
+use Rattle.burr_judge.specs.StepEnds.{left_by, DialogueBreaks, DialogueEnds}
+use Rattle.burr_judge.specs.Stops.{ResultOn, IsFault, StopsBy, IsFaultIn}
+use Rattle.burr_judge.proofs.Common.Results.{comes_stopped, handed}
+
+-- where nothing is held back, what the sink took is put whole
+pub put_whole : {S : Type 0} (sink : SinkView S) (before after : Lines S) (text : List ℕ) → before.held ≡ [] → after.held ≡ [] → Takes sink before.sink after.sink text
+    → Takes (lines_view sink) before after text
+put_whole sink before after text none nothing took =
+    subst (λ (x : Option (List ℕ)). Appends x (append_known (sink.taken after.sink) after.held) text) (sym (nothing_held sink before none))
+    (subst (λ (x : Option (List ℕ)). Appends (sink.taken before.sink) x text) (sym (nothing_held sink after nothing)) took)
+
+-- the command breaks off with a fault that this line tells
+pub broken : {S : Type 0} {sink : SinkView S} {before after : S} {AreEnds : Ends} {Breaks : List ℕ → Type 0} {r : Result Status Stop} (line : List ℕ)
+    → Breaks line → IsErrAnd r (IsFault line) → ResultOn sink before after AreEnds Breaks r
+broken {S} {sink} {before} {after} {AreEnds} {Breaks} {r} line breaks err = comes_stopped sink before after AreEnds Breaks r (IsFault line) err stops
+  where
+    stops : (stop : Stop) → IsFault line stop → StopsBy sink before after AreEnds Breaks stop
+    stops (halts.Fault fault) is = inr (subst Breaks (sym is) breaks)
+    stops (halts.Refused refused notes) is = absurd is
+
+-- the same with a fault that such a line tells
+pub breaks_by : {S : Type 0} {sink : SinkView S} {before after : S} {AreEnds : Ends} {Breaks Says : List ℕ → Type 0} {r : Result Status Stop} {stop : Stop}
+    → ((line : List ℕ) → Says line → Stops sink before after AreEnds Breaks line) → IsFaultIn Says stop → IsErrAnd r (λ e. e ≡ stop) → ResultOn sink before after AreEnds Breaks r
+breaks_by {S} {sink} {before} {after} {AreEnds} {Breaks} {Says} {r} {stop} more tells err = comes_stopped sink before after AreEnds Breaks r (IsFaultIn Says) (handed r (IsFaultIn Says) stop tells err) stops
+  where
+    stops : (stop : Stop) → IsFaultIn Says stop → StopsBy sink before after AreEnds Breaks stop
+    stops (halts.Fault fault) is = more (line_of fault) is.says
+    stops (halts.Refused refused notes) is = absurd is.says
+
+-- a fault by one such line
+pub fault_tells : (line : List ℕ) (Says : List ℕ → Type 0) (stop : Stop) → IsFault line stop → Says line → IsFaultIn Says stop
+fault_tells line Says (halts.Fault fault) is says = record { says = subst Says (sym is) says }
+fault_tells line Says (halts.Refused refused notes) is says = absurd is
+
+-- A stepper
+
+module _ {R S : Type 0} (source : SourceView R) (first last : R) (sink : SinkView S) (before after : Lines S) where
+  pub dialogue_done : {Breaks : List ℕ → Type 0} (j : Judged) (old new : Stepping) → before.held ≡ [] → after.held ≡ [] → IsFresh j old
+      → EndsDialogue LineFeed StepAnswers old (streams source first last sink before.sink after.sink) new
+      → ResultOn (lines_view sink) before after (DialogueEnds (left_by source first last) j) Breaks (Ok Done)
+  dialogue_done j old new none nothing fresh (text, dialogue, took) =
+      record { done = (text, (refl, (old, new, fresh, dialogue)), put_whole sink before after text none nothing took); stops = tt }
+
+  pub dialogue_broken : {AreEnds : Ends} (j : Judged) (old new : Stepping) (fault : BenchFault) {r : Result Status Stop} → IsFresh j old
+      → BreaksDialogue LineFeed StepAnswers IsAnswerLine old (streams source first last sink before.sink after.sink) fault new → IsErrAnd r (IsFault (complaint_of fault))
+      → ResultOn (lines_view sink) before after AreEnds (DialogueBreaks (streams source first last sink before.sink after.sink) j) r
+  dialogue_broken j old new fault fresh breaks = broken (complaint_of fault) (fault, refl, (old, new, fresh, breaks))
+
+-- A drive
+
+module _ {R S : Type 0} (source : SourceView R) (first last : R) (sink : SinkView S) (before mid after : Lines S) (text bytes : List ℕ) (j : Judged) where
+  -- the dialogue has ended, and nothing is held back
+  pub led_done : {Breaks : List ℕ → Type 0} (old new : Driving) (status : Status) → before.held ≡ [] → after.held ≡ [] → IsReady j old → Takes sink before.sink mid.sink (ready_text text bytes)
+      → EndsDialogue LineFeed DriveAnswers old (streams source first last sink mid.sink after.sink) new → LeavesWith new status
+      → ResultOn (lines_view sink) before after (LedEnds (left_by source first last) text bytes j) Breaks (Ok status)
+  led_done old new status none nothing ready began (said, dialogue, took) leaves =
+      let both : Appends (sink.taken before.sink) (sink.taken after.sink) (ready_text text bytes ++ said) =
+      Appends-trans (sink.taken before.sink) (sink.taken mid.sink) (sink.taken after.sink) (ready_text text bytes) said began took in
+      record {
+        done = (ready_text text bytes ++ said, (old, new, said, ready, dialogue, refl, leaves), put_whole sink before after (ready_text text bytes ++ said) none nothing both);
+        stops = tt;
+      }
+
+  -- the dialogue broke off
+  pub led_broken : {AreEnds : Ends} (old new : Driving) (fault : BenchFault) {r : Result Status Stop} → IsReady j old → Takes sink before.sink mid.sink (ready_text text bytes)
+      → BreaksDialogue LineFeed DriveAnswers AsksNone old (streams source first last sink mid.sink after.sink) fault new → IsErrAnd r (IsFault (complaint_of fault))
+      → ResultOn (lines_view sink) before after AreEnds (LedBreaks (streams source first last sink before.sink after.sink) text bytes j) r
+  led_broken old new fault ready began breaks = broken (complaint_of fault) (inr (sink.taken mid.sink, began, (fault, refl, (old, new, ready, breaks))))
+
+-- the sink failed while it was told that the run is ready, or memory was refused
+pub begin_stops : {R S : Type 0} (source : SourceView R) (first last : R) (sink : SinkView S) (before after : Lines S) (text bytes : List ℕ) (j : Judged) {AreEnds : Ends} {r : Result Status Stop} {stop : Stop}
+    → IsFaultIn (FailsToBegin sink before after (ready_text text bytes)) stop → IsErrAnd r (λ e. e ≡ stop)
+    → ResultOn (lines_view sink) before after AreEnds (LedBreaks (streams source first last sink before.sink after.sink) text bytes j) r
+begin_stops source first last sink before after text bytes j {AreEnds} = breaks_by begins
+  where
+    begins : (line : List ℕ) → FailsToBegin sink before after (ready_text text bytes) line → Stops (lines_view sink) before after AreEnds (LedBreaks (streams source first last sink before.sink after.sink) text bytes j) line
+    begins line (inl fails) = inr (inl fails)
+    begins line (inr want) = inl (inr want)
+
+-- A run that is kept
+
+pub opened_is : {Kept : Type 0} (Begins : Beginnings Kept) {text bytes : List ℕ} {a : Assembly} {kept : ContainerView} {j : Judged} {run : Kept}
+    → IsText text a → IsRead bytes kept → j ≡ judged kept a → IsAccepted j → Begins j run → IsOpened Begins text bytes run
+opened_is Begins {a = a} {kept = kept} {run = run} is read same accepted begins =
+    (a, is, (kept, read, (subst IsAccepted same accepted, subst (λ x. Begins x run) same begins)))

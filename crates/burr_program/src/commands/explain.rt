@@ -1,0 +1,33 @@
+ghost use Rattle.std.specs.Prelude.{IfErr};
+ghost use Rattle.burr_judge.specs.PlanEnds.{never};
+ghost use Rattle.burr_program.specs.Commands.{CommandResult, ExplainDone};
+ghost use Rattle.burr_program.specs.ExplainEnds.{ExplainEnds, FailsToExplain};
+ghost use Rattle.burr_judge.specs.Stops.{IsFaultIn};
+
+use crate::done::Done;
+use burr_explain::{explanation_of, put_explanation};
+use burr_io::Sink;
+use burr_judge::{Fault, Status, Stop};
+
+/// Prints what a word or a line of output means.
+///
+/// # Errors
+/// `Unknown` if nothing is explained under it.
+pub fn explain<'a, W: Sink>(line: &'a str, sink: &mut W) -> Result<Done<'a>, Stop<'a>>
+    ensures ends { CommandResult W.Sink sink.old sink.new (ExplainDone line.entry.now)
+        (ExplainEnds line.entry.now) never result }
+    ensures fails { IfErr result (IsFaultIn (FailsToExplain line.entry.now)) }
+{
+    match explanation_of(line.as_bytes()) {
+        Some(known) => {
+            put_explanation(known, sink)?;
+            Ok(Done {
+                status: Status::Done,
+                assembly: None,
+                source: None,
+                written: None,
+            })
+        }
+        None => Err(Stop::Fault(Fault::Unknown(line))),
+    }
+}

@@ -1,0 +1,45 @@
+ghost use Rattle.std.specs.Prelude.{◌≡◌, []};
+ghost use Rattle.burr_io.specs.WholeLines.{lines_view};
+ghost use Rattle.burr_runs.specs.Views.BenchText.{streams};
+ghost use Rattle.burr_judge.specs.StepEnds.{left_by};
+ghost use Rattle.burr_program.specs.Commands.{CommandResult, StepCommand, StepCommandBreaks, StepDone};
+
+use crate::done::Done;
+use crate::files::read_file;
+use burr_io::{Sink, Source, WholeLines};
+use burr_judge::{Stop, step_text};
+use std::rt::Files;
+
+/// Goes through an accepted container's plan step by step: answers each command of the source before it
+/// reads the next one.
+#[inline(never)]
+pub fn step<'a, F: Files + AllocGlobal, R: Source, W: Sink, const N: usize>(
+    files: &F,
+    assembly: &'a str,
+    plan: &'a str,
+    commands: &mut R,
+    sink: &mut WholeLines<W, N>,
+) -> Result<Done<'a>, Stop<'a>>
+    requires fresh { sink.old.held ≡ [] }
+    ensures { CommandResult (lines_view W.Sink) sink.old sink.new
+        (StepDone (left_by R.Source commands.old commands.new) assembly.entry.now plan.entry.now)
+        (StepCommand (left_by R.Source commands.old commands.new))
+        (StepCommandBreaks
+        (streams R.Source commands.old commands.new W.Sink sink.old.sink sink.new.sink)) result }
+{
+    let drawing = read_file(files, assembly)?;
+    let source = read_file(files, plan)?;
+    let status = step_text(
+        files.alloc(),
+        drawing.bytes(),
+        source.bytes(),
+        commands,
+        sink,
+    )?;
+    Ok(Done {
+        status,
+        assembly: Some(drawing),
+        source: Some(source),
+        written: None,
+    })
+}
