@@ -154,9 +154,14 @@ impl End {
 
     /// Calls the program over a reader. Few bytes of lines are held back, so that what is long is handed
     /// on in parts.
-    fn call<T: Files + AllocGlobal, R: Read + Drop>(&mut self, rt: &T, words: &[String], input: R) {
+    fn call<T: Files + AllocGlobal, R: Read + Drop>(
+        &mut self,
+        rt: &T,
+        words: &[String],
+        mut input: R,
+    ) {
         let mut io: Streams<_, _, _, 64, 64> = Streams {
-            source: Reading::new(input),
+            source: Reading::new(&mut input),
             sink: WholeLines::new(Writing::new(&mut self.output)),
             errors: WholeLines::new(Writing::new(&mut self.complaint)),
         };
