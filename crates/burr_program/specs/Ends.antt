@@ -14,10 +14,11 @@ use Rattle.burr_runs.specs.Views.BenchText.{Streams, Succeeds, Fails}
 use Rattle.burr_judge.specs.declared.fault.Fault.{Fault}
 use Rattle.burr_judge.specs.declared.status.Status.{Status}
 use Rattle.burr_judge.specs.declared.status.Status.TheVariants.{Done, CommandLine}
+use Rattle.burr_judge.specs.declared.status.Status.TheVariants.{Memory as OutOfMemory}
 use Rattle.burr_judge.specs.Faults.{complaint_of, status_of_complaint, line_of, status_of_fault, output_failed}
 use Rattle.burr_judge.specs.Statuses.{code_of, status_of}
 use Rattle.burr_judge.specs.PlanEnds.{Ends}
-use Rattle.burr_program.specs.Commands.{JobEnds, JobBreaks}
+use Rattle.burr_program.specs.Commands.{JobEnds, JobFails, JobBreaks}
 use Rattle.burr_judge.specs.StepEnds.{left_of}
 
 -- What a sink had taken before and after, and whether it has failed.
@@ -120,12 +121,12 @@ FailsToPrint AreEnds sink =
 abbrev pub sink_of : Streams → Taken
 sink_of s = took s.taken_old s.taken_new s.write_failed
 
--- what standard output took where a job stops with a fault's line: a front of what it prints, or
--- nothing, or answers to commands before it broke off
+-- what standard output took if a job stops with a fault's line: a front of what it prints; or nothing, and
+-- the line names a word of the job; or answers to commands before it broke off
 abbrev pub StopsJob : Job → Streams → List ℕ → Type 0
 StopsJob job s line =
     ((line ≡ output_failed) × FailsToPrint (JobEnds (left_of s) job) (sink_of s))
-    ⊎ TakesNothing (sink_of s) ⊎ JobBreaks s job line
+    ⊎ (TakesNothing (sink_of s) × JobFails job line) ⊎ JobBreaks s job line
 
 -- a job was done, or stopped with a fault, which is told; and before that, how far it was
 abbrev pub DoesJob : Streams → Taken → ℕ → Job → Type 0
@@ -138,16 +139,26 @@ DoesJob s complaints status job =
 abbrev pub IsText : List ℕ → Ends
 IsText text output status = (output ≡ text) × (status ≡ Done)
 
--- the text of a reply was printed, or standard output failed in it; or the text is that of a fault
+-- the text of a reply was printed, or standard output failed in it
 abbrev pub Replies : List ℕ → Taken → Taken → ℕ → Type 0
 Replies text sink complaints status =
     Prints (IsText text) sink complaints [] status
     ⊎ ((fault : Fault) × TellsFault complaints [] status fault
-    × (((line_of fault ≡ output_failed) × FailsToPrint (IsText text) sink)
-    ⊎ ((line_of fault ≡ text) × TakesNothing sink)))
+    × (line_of fault ≡ output_failed) × FailsToPrint (IsText text) sink)
 
--- The words were answered: by a reply, or by a job that was done.
+-- standard error took a text, or failed in it, with this status, and standard output took nothing
+abbrev pub Complains : List ℕ → Status → Taken → Taken → ℕ → Type 0
+Complains text ended sink complaints status =
+    (status ≡ code_of ended) × TakesText complaints text × TakesNothing sink
+
+-- a reply: help or the version was printed, or what is wrong with the words
+abbrev pub IsReplied : List ℕ → Taken → Taken → ℕ → Type 0
+IsReplied text sink complaints status =
+    Replies text sink complaints status ⊎ Complains text CommandLine sink complaints status
+
+-- The words were answered: by a reply, or by a job that was done; or memory was out.
 abbrev pub IsEnd : Streams → Taken → ℕ → Type 0
 IsEnd s complaints status =
-    ((text : List ℕ) × Replies text (sink_of s) complaints status)
+    ((text : List ℕ) × IsReplied text (sink_of s) complaints status)
     ⊎ ((job : Job) × DoesJob s complaints status job)
+    ⊎ Complains (codes "no memory\n") OutOfMemory (sink_of s) complaints status

@@ -9,6 +9,7 @@ ghost use Rattle.burr_verify.specs.Rules.Accepting.{judged, IsAccepted};
 ghost use Rattle.burr_judge.specs.Inputs.{RefusesPlanBytes};
 ghost use Rattle.burr_judge.specs.PlanEnds.{TryEnds};
 ghost use Rattle.burr_judge.specs.Stops.{Noted, Refuses, RefusesText};
+ghost use Rattle.burr_program.specs.FileFaults.{AnyText};
 ghost use Rattle.burr_judge.specs.declared.status.Status.TheVariants as statuses;
 
 use crate::files::SourceFile;
@@ -137,7 +138,9 @@ pub fn refuse_line<'y>(
     source: &SourceFile<'_>,
     line: usize,
     note: &str,
-) -> Result<Stop<'y>, AllocError> {
+) -> Result<Stop<'y>, AllocError>
+    ensures { IfOk result (Refuses AnyText) }
+{
     let mut reason = reason_of_line(alloc, source.name(), source.bytes(), line)?;
     writeln!(reason, "    {note}")?;
     let notes = with_meaning(reason, subject)?;

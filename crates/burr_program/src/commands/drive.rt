@@ -1,8 +1,9 @@
-ghost use Rattle.std.specs.Prelude.{◌≡◌, []};
+ghost use Rattle.std.specs.Prelude.{◌≡◌, ◌∷◌, []};
 ghost use Rattle.burr_io.specs.WholeLines.{lines_view};
 ghost use Rattle.burr_runs.specs.Views.BenchText.{streams};
 ghost use Rattle.burr_judge.specs.StepEnds.{left_by};
 ghost use Rattle.burr_program.specs.Commands.{CommandResult, DriveCommand, DriveCommandBreaks, DriveDone};
+ghost use Rattle.burr_program.specs.FileFaults.{CannotRead};
 
 use crate::done::Done;
 use crate::files::read_file;
@@ -24,6 +25,7 @@ pub fn drive<'a, F: Files + AllocGlobal, R: Source, W: Sink, const N: usize>(
     ensures { CommandResult (lines_view W.Sink) sink.old sink.new
         (DriveDone (left_by R.Source commands.old commands.new) assembly.entry.now plan.entry.now)
         (DriveCommand (left_by R.Source commands.old commands.new))
+        (CannotRead (assembly.entry.now ∷ plan.entry.now ∷ []))
         (DriveCommandBreaks
         (streams R.Source commands.old commands.new W.Sink sink.old.sink sink.new.sink)) result }
 {

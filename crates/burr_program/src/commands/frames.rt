@@ -1,7 +1,9 @@
-ghost use Rattle.std.specs.Prelude.{◌≡◌, [], IfOk};
+ghost use Rattle.std.specs.Prelude.{◌≡◌, ◌∷◌, [], codes, IfErr, IfOk};
 ghost use Rattle.burr_judge.specs.PlanEnds.{never};
+ghost use Rattle.burr_judge.specs.Stops.{Refuses};
 ghost use Rattle.burr_lines.specs.FilledTexts.{IsFilledIn};
 ghost use Rattle.burr_program.specs.Commands.{CommandResult, DoneEnds, FramesDone, PutsNotes};
+ghost use Rattle.burr_program.specs.FileFaults.{AnyText, CannotRewrite};
 ghost use Rattle.burr_program.specs.Ends.{runs_line};
 ghost use Rattle.burr_program.specs.HowFar.{IsReady, Tells, TellsRuns};
 
@@ -39,7 +41,9 @@ pub fn frames<'a, F: Files + AllocGlobal, W: Sink, E: Sink, const N: usize>(
 ) -> Result<Done<'a>, Stop<'a>>
     requires told { errors.old.held ≡ [] }
     ensures ends { CommandResult W.Sink sink.old sink.new
-        (FramesDone assembly.entry.now text.entry.now out.entry.now) DoneEnds never result }
+        (FramesDone assembly.entry.now text.entry.now out.entry.now) DoneEnds
+        (CannotRewrite (assembly.entry.now ∷ text.entry.now ∷ []) (codes "ASSEMBLY" ∷ codes "TEXT" ∷ [])
+        out.entry.now) never result }
     ensures told { TellsRuns E.Sink errors.old errors.new }
 {
     let inputs = [("ASSEMBLY", assembly), ("TEXT", text)];
@@ -90,6 +94,7 @@ fn fill_text<'y, E: Sink, const N: usize>(
     requires told { errors.old.held ≡ [] }
     ensures made { IfOk result (λ filled.
         IsFilledIn source.now.bytes.items filled.text.items) }
+    ensures err { IfErr result (Refuses AnyText) }
     ensures told { TellsRuns E.Sink errors.old errors.new }
 {
     let assembly = read_noted(alloc, drawing)?;
@@ -118,6 +123,7 @@ fn fill_by_runs<'y, B: Blocking, E: Sink, const N: usize>(
 ) -> Result<Filled, Stop<'y>>
     requires told { errors.old.held ≡ [] }
     ensures made { IfOk result (λ filled. IsFilledIn unframed.now filled.text.items) }
+    ensures err { IfErr result (Refuses AnyText) }
     ensures told { TellsRuns E.Sink errors.old errors.new }
 {
     let plan = source.beside(container, tables.assembly());
@@ -135,7 +141,9 @@ fn refuse_own_line<'y>(
     source: &SourceFile<'_>,
     unframed: &Unframed<'_>,
     fault: AsmFault,
-) -> Result<Stop<'y>, AllocError> {
+) -> Result<Stop<'y>, AllocError>
+    ensures { IfOk result (Refuses AnyText) }
+{
     let (code, line) = fault.code_and_line().ok_or(AllocError)?;
     let line = unframed.own_line(line);
     let notes = reason_of_fault(alloc, source, code, line)?;
@@ -152,6 +160,7 @@ fn make_runs<'y, B: Blocking, E: Sink, const N: usize>(
     errors: &mut WholeLines<E, N>,
 ) -> Result<&'static str, Stop<'y>>
     requires told { errors.old.held ≡ [] }
+    ensures err { IfErr result (Refuses AnyText) }
     ensures told { TellsRuns E.Sink errors.old errors.new }
 {
     let mut questions = Questions::new(alloc);
@@ -172,7 +181,9 @@ fn make_hundred<'y, B: Blocking>(
     tables: &B,
     questions: &mut Questions,
     sightings: &mut Sightings,
-) -> Result<bool, Stop<'y>> {
+) -> Result<bool, Stop<'y>>
+    ensures { IfErr result (Refuses AnyText) }
+{
     for _ in 0..RUNS_A_LINE {
         if !make_run(alloc, labels, tables, questions, sightings)? {
             return Ok(false);
@@ -188,7 +199,9 @@ fn make_run<'y, B: Blocking>(
     tables: &B,
     questions: &mut Questions,
     sightings: &mut Sightings,
-) -> Result<bool, Stop<'y>> {
+) -> Result<bool, Stop<'y>>
+    ensures { IfErr result (Refuses AnyText) }
+{
     let mut run = Arrivals::new(alloc, labels);
     let answers = questions.text(alloc)?;
     let (status, sheet) = try_noted(alloc, labels.plan, tables, answers.as_bytes(), &mut run)?;

@@ -8,6 +8,7 @@ ghost use Rattle.burr_judge.specs.PlanEnds.{never};
 ghost use Rattle.burr_judge.specs.StepEnds.{left_by};
 ghost use Rattle.burr_judge.specs.Stops.{ResultOn};
 ghost use Rattle.burr_program.specs.Commands.{CommandResult, FileResult, JudgeDone};
+ghost use Rattle.burr_program.specs.FileFaults.{NoMemory};
 ghost use Rattle.burr_program.specs.ListEnds.{IsPair, JudgeCommand, JudgeCommandBreaks, LineEnds, PairEnds, judged_line, max_status as max_of};
 ghost use Rattle.burr_program.specs.Judging.{TellsJudged, bytes_of};
 
@@ -36,7 +37,7 @@ pub fn judge<'a, F: Files + AllocGlobal, R: Source, W: Sink, const N: usize>(
     requires fresh { sink.old.held ≡ [] }
     ensures { CommandResult (lines_view W.Sink) sink.old sink.new
         (JudgeDone end separator (left_by R.Source source.old source.new))
-        (JudgeCommand end separator (left_by R.Source source.old source.new))
+        (JudgeCommand end separator (left_by R.Source source.old source.new)) NoMemory
         (JudgeCommandBreaks end separator
         (streams R.Source source.old source.new W.Sink sink.old.sink sink.new.sink)) result }
 {
