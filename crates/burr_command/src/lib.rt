@@ -1,15 +1,12 @@
-//! The command line: what its words ask for, help, and what is wrong with words.
+//! Reads the command line: `request_of` returns the job that its words ask for, or the reply to
+//! words that ask for none. `specs/Asking` says which words ask for which job.
 //!
-//! # Promised
-//! - Nothing is promised beyond safety. `request_of`, its public call, takes memory, and answers
-//!   `AllocError` where that is refused.
+//! ```text
+//! let words = ["burr", "list", "--places", "cup.bpln"];    // a Vec of String
+//! request_of(alloc, &words)?    // Request::Job(Job::List { plan: "cup.bpln", places: true })
+//! ```
 //!
-//! # Tested only
-//! - No contract says which job or reply words ask for, or which of these jobs read standard input.
-//! - No contract has the texts of help, of the version and of faults of the command line.
-//!
-//! So no must-fail edit stands in the gate; `scripts/wrong-bodies` shows three wrong bodies that
-//! its tests refuse.
+//! Only tests say which words are refused, and what help, the version and faults say.
 #![tactic(auto)]
 
 mod command;
