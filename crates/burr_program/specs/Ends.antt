@@ -3,6 +3,7 @@ use Rattle.std.specs.Prelude.{◌≡◌, ◌⊎◌, ◌*◌, ℕ, zero, suc, Lis
 use Rattle.std.specs.Io.KnownBytes.{Appends}
 use Rattle.burr_text.specs.Words.{text_line}
 use Rattle.burr_io.specs.Sink.{HoldsFront, SinkView}
+use Rattle.burr_command.specs.Asking.{IsAsked}
 use Rattle.burr_command.specs.declared.job.Job.{Job}
 use Rattle.burr_command.specs.declared.job.Job.TheVariants as jobs
 use Rattle.burr_runs.specs.declared.text_runs.Outcome.{Outcome}
@@ -156,9 +157,9 @@ abbrev pub IsReplied : List ℕ → Taken → Taken → ℕ → Type 0
 IsReplied text sink complaints status =
     Replies text sink complaints status ⊎ Complains text CommandLine sink complaints status
 
--- The words were answered: by a reply, or by a job that was done; or memory was out.
-abbrev pub IsEnd : Streams → Taken → ℕ → Type 0
-IsEnd s complaints status =
+-- The words were answered: by a reply, or by the job that they ask for; or memory was out.
+abbrev pub IsEnd : List (List ℕ) → Streams → Taken → ℕ → Type 0
+IsEnd words s complaints status =
     ((text : List ℕ) × IsReplied text (sink_of s) complaints status)
-    ⊎ ((job : Job) × DoesJob s complaints status job)
+    ⊎ ((job : Job) × IsAsked words job × DoesJob s complaints status job)
     ⊎ Complains (codes "no memory\n") OutOfMemory (sink_of s) complaints status

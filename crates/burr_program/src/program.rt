@@ -1,6 +1,6 @@
 //! What the program does with its words and its streams, and the status that it ends with.
 
-ghost use Rattle.std.specs.Prelude.{◌≡◌, ◌≢◌, ◌≤◌, ◌<◌, [], codes, length, IfErr, IfOk, string_bytes};
+ghost use Rattle.std.specs.Prelude.{◌≡◌, ◌≢◌, ◌≤◌, ◌<◌, [], codes, length, map, string_bytes};
 ghost use Rattle.burr_io.specs.Sink.{Puts};
 ghost use Rattle.burr_io.specs.WholeLines.{lines_view};
 ghost use Rattle.burr_runs.specs.declared.input.BenchFault.TheVariants.{Memory};
@@ -50,7 +50,7 @@ pub fn run_words<
     ensures run { length words.now ≤ 1 → IsRun
         (streams R.Source io.old.source io.new.source W.Sink io.old.sink.sink io.new.sink.sink)
         (took_by E.Sink io.old.errors.sink io.new.errors.sink) result }
-    ensures end { 1 < length words.now → IsEnd
+    ensures end { 1 < length words.now → IsEnd (map string_bytes words.now)
         (streams R.Source io.old.source io.new.source W.Sink io.old.sink.sink io.new.sink.sink)
         (took_by E.Sink io.old.errors.sink io.new.errors.sink) result }
 {

@@ -16,6 +16,7 @@ pub returns-in-Ok-Job-clause-end : goal.returns-in-Ok-Job-clause-end
 returns-in-Ok-Job-clause-end g c = λ more.
     rw c.code-in-Ok-Job.ensures (inr (inl (
       c.in-Ok-Job.job,
+      rw c.in-Ok-Job.field-0-is at c.in-Ok-Job.ensures,
       job_done g.R.Source c.args.io.now.source c.do_job.new.io.source g.W.Sink c.args.io.now.sink c.do_job.new.io.sink c.finish-in-Ok-Job.new.sink
           g.E.Sink c.args.io.now.errors c.do_job.new.io.errors c.finish-in-Ok-Job.new.errors c.in-Ok-Job.job c.do_job.result c.status_of-done.result c.finish-in-Ok-Job.result
           c.requires.fresh (rw c.in-Ok-Job.field-0-is at c.do_job.ensures.ends) c.status_of-done.ensures (rw c.in-Ok-Job.field-0-is at c.do_job.ensures.told) c.finish-in-Ok-Job.ensures.so,
