@@ -12,9 +12,9 @@ use std::path::PathBuf;
 #[derive(Clone, Copy)]
 pub enum Failing<'a> {
     None,
-    /// The one after so many.
+    /// The one after this number of calls.
     After(usize),
-    /// The first one of this name.
+    /// The first call of this name.
     At(&'a str),
 }
 

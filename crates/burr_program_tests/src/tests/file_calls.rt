@@ -135,7 +135,7 @@ read 70
 ?0
 ";
 
-/// None of the files can be read, or the first one alone.
+/// The first file can't be read; or the second one, and the first one would be refused.
 const MISSING: &str = "\
 $burr check one two
 $burr run one two
@@ -149,15 +149,15 @@ $burr list one
 open one
 !cannot read one
 ?3
-$burr check duo two
-$burr run duo two
-$burr try duo two
-$burr step duo two
-$burr drive duo two
-$burr why duo two
-$burr trace duo two
-open duo
-read 88
+$burr check duo.plan two
+$burr run duo.plan two
+$burr try duo.plan two
+$burr step duo.plan two
+$burr drive duo.plan two
+$burr why duo.plan two
+$burr trace duo.plan two
+open duo.plan
+read 98
 open two
 !cannot read two
 ?3
@@ -177,14 +177,14 @@ metadata out
 open one
 !cannot read one
 ?3
-$burr frames duo two out
-$burr plan duo two out
-metadata duo
+$burr frames duo.plan two out
+$burr plan duo.plan two out
+metadata duo.plan
 metadata out
 metadata two
 metadata out
-open duo
-read 88
+open duo.plan
+read 98
 open two
 !cannot read two
 ?3
@@ -244,7 +244,7 @@ fn put_files<T: Abort + Files + AllocGlobal>(rt: &T) {
     assert_case(rt, "old.440", put_with_mode(rt, "old.440", 0o440).is_ok());
 }
 
-/// The commands that write a file, if there is none of that name.
+/// The commands that write a file, which is not there yet.
 const MAKING: &str = "\
 $burr asm duo.plan out
 metadata duo.plan
