@@ -10,6 +10,8 @@ use std::rt::Files;
 mod bench;
 mod driving;
 mod examples;
+mod faulty_files;
+mod file_calls;
 mod file_faults;
 mod files;
 mod judging;
