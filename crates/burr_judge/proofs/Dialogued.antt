@@ -6,7 +6,7 @@ use Rattle.std.specs.Io.KnownBytes.{Appends, append_known}
 use Rattle.std.proofs.KnownBytes.{Appends-trans}
 use Rattle.burr_io.specs.Sink.{SinkView, Takes}
 use Rattle.burr_io.specs.Source.{SourceView}
-use Rattle.burr_io.specs.WholeLines.{Lines, lines_view}
+use Rattle.burr_io.specs.LineWriter.{Lines, lines_view}
 use Rattle.burr_io.proofs.Common.Lines.{nothing_held}
 use Rattle.burr_assembly.specs.Rules.Text.{Assembly, IsText}
 use Rattle.burr_container.specs.Views.Containers.{ContainerView}

@@ -1,7 +1,7 @@
 -- How the program reports what a command returned.
 use Rattle.std.specs.Prelude.{◌≡◌, ◌≢◌, ◌⊎◌, ℕ, List, [], Result, Ok, Err, IfOk, IfErr}
 use Rattle.burr_io.specs.Sink.{SinkView, Takes, FailsWithin}
-use Rattle.burr_io.specs.WholeLines.{Lines}
+use Rattle.burr_io.specs.LineWriter.{Lines}
 use Rattle.burr_runs.specs.declared.text_runs.Outcome.{Outcome}
 use Rattle.burr_runs.specs.declared.input.BenchFault.{BenchFault}
 use Rattle.burr_runs.specs.declared.input.BenchFault.TheVariants.{Write}

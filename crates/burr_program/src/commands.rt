@@ -16,7 +16,7 @@ mod upgrade;
 mod why;
 
 ghost use Rattle.std.specs.Prelude.{◌≡◌, []};
-ghost use Rattle.burr_io.specs.WholeLines.{lines_view};
+ghost use Rattle.burr_io.specs.LineWriter.{lines_view};
 ghost use Rattle.burr_runs.specs.Views.BenchText.{streams};
 ghost use Rattle.burr_judge.specs.StepEnds.{left_by};
 ghost use Rattle.burr_program.specs.Commands.{CommandResult, JobBreaks, JobDone, JobEnds, JobFails};

@@ -77,7 +77,7 @@ pub fn read_file<'a, F: Files + AllocGlobal>(
     }
 }
 
-/// Checks that a file to be written is none of the inputs, each of which has its word of the usage.
+/// Checks that a file to be written is not one of the inputs, which come with their words of the usage.
 ///
 /// # Errors
 /// `OutIsInput` with the first input that is the same file.

@@ -18,7 +18,7 @@ use burr_assembly::Assembly;
 use burr_blocking::Blocking;
 use burr_container::Container;
 use burr_explain::explanation_of;
-use burr_io::Kept;
+use burr_io::VecSink;
 use burr_judge::{Refused, Status, Stop, judge_plan, read_assembly, try_plan};
 use burr_lines::Unframed;
 use burr_runs::Observer;
@@ -119,7 +119,7 @@ pub fn try_noted<'y, B: Blocking, O: Observer>(
     ensures err { IfErr result (Refuses (Noted (λ text. TryEnds plan.entry.container.now
         (B.subject tables.now) answers.now text statuses.Refused))) }
 {
-    let mut sheet = Kept::new(alloc);
+    let mut sheet = VecSink::new(alloc);
     match try_plan(alloc, plan.container, tables, answers, observer, &mut sheet) {
         Ok(status) => Ok((status, sheet.into_bytes())),
         Err(Stop::Fault(_)) => Err(Stop::from(AllocError)),

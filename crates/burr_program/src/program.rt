@@ -2,7 +2,7 @@
 
 ghost use Rattle.std.specs.Prelude.{◌≡◌, ◌≢◌, ◌≤◌, ◌<◌, [], codes, length, map, string_bytes};
 ghost use Rattle.burr_io.specs.Sink.{Puts};
-ghost use Rattle.burr_io.specs.WholeLines.{lines_view};
+ghost use Rattle.burr_io.specs.LineWriter.{lines_view};
 ghost use Rattle.burr_runs.specs.declared.input.BenchFault.TheVariants.{Memory};
 ghost use Rattle.burr_runs.specs.Views.BenchText.{streams};
 ghost use Rattle.burr_judge.specs.Faults.{complaint_of, line_of, status_of_fault};
@@ -14,7 +14,7 @@ ghost use Rattle.burr_program.specs.HowFar.{IsReady, Tells};
 use crate::commands::do_job;
 use crate::done::Done;
 use burr_command::{Reply, Request, request_of};
-use burr_io::{Sink, Source, WholeLines, WriteFault, put_all};
+use burr_io::{LineWriter, Sink, Source, WriteFault, put_all};
 use burr_judge::{Fault, Status, Stop, put_fault, report};
 use burr_runs::{BenchFault, bench_text};
 use std::alloc::{AllocError, Global};
@@ -25,8 +25,8 @@ use std::rt::Files;
 #[derive(Drop)]
 pub struct Streams<R, W, E, const N: usize, const M: usize> {
     pub source: R,
-    pub sink: WholeLines<W, N>,
-    pub errors: WholeLines<E, M>,
+    pub sink: LineWriter<W, N>,
+    pub errors: LineWriter<E, M>,
 }
 
 /// Does all that the program does, and returns its exit status. With the program's name alone it runs the bare
@@ -73,7 +73,7 @@ pub fn run_words<
 /// not UTF-8. Standard error gets the line for it.
 pub fn end_without_words<E: Sink, const N: usize>(
     kind: ErrorKind,
-    errors: &mut WholeLines<E, N>,
+    errors: &mut LineWriter<E, N>,
 ) -> u8
     requires told { errors.old.held ≡ [] }
     ensures memory { kind ≡ ErrorKind.OutOfMemory → (result ≡ 4) × TakesText
@@ -93,7 +93,7 @@ pub fn end_without_words<E: Sink, const N: usize>(
 fn run_bare<'a, R: Source, W: Sink, const N: usize>(
     alloc: Global,
     source: &mut R,
-    sink: &mut WholeLines<W, N>,
+    sink: &mut LineWriter<W, N>,
 ) -> Result<Status, Stop<'a>>
     ensures { BareResult
         (streams R.Source source.old source.new (lines_view W.Sink) sink.old sink.new)
@@ -109,8 +109,8 @@ fn run_bare<'a, R: Source, W: Sink, const N: usize>(
 /// Returns the status to end with.
 fn answer<W: Sink, E: Sink, const N: usize, const M: usize>(
     reply: &Reply,
-    sink: &mut WholeLines<W, N>,
-    errors: &mut WholeLines<E, M>,
+    sink: &mut LineWriter<W, N>,
+    errors: &mut LineWriter<E, M>,
 ) -> Status
     requires fresh { sink.old.held ≡ [] }
     requires told { errors.old.held ≡ [] }
@@ -147,8 +147,8 @@ fn status_of<'a>(done: Result<Done<'a>, Stop<'a>>) -> Result<Status, Stop<'a>>
 /// to standard error. Returns the status to end with.
 fn finish<W: Sink, E: Sink, const N: usize, const M: usize>(
     done: Result<Status, Stop<'_>>,
-    sink: &mut WholeLines<W, N>,
-    errors: &mut WholeLines<E, M>,
+    sink: &mut LineWriter<W, N>,
+    errors: &mut LineWriter<E, M>,
 ) -> Status
     requires ready { IsReady E.Sink errors.old }
     ensures { Finishes W.Sink E.Sink sink.old sink.new errors.old errors.new done.entry result }
@@ -164,7 +164,7 @@ fn finish<W: Sink, E: Sink, const N: usize, const M: usize>(
 
 /// Writes what is wrong with the command line on standard error, unless that has failed, and returns the
 /// status to end with.
-fn complain<E: Sink, const N: usize>(text: &str, errors: &mut WholeLines<E, N>) -> Status
+fn complain<E: Sink, const N: usize>(text: &str, errors: &mut LineWriter<E, N>) -> Status
     requires ready { IsReady E.Sink errors.old }
     ensures status { result ≡ Status.CommandLine }
     ensures told { Tells E.Sink errors.old errors.new text.now }
@@ -178,7 +178,7 @@ fn complain<E: Sink, const N: usize>(text: &str, errors: &mut WholeLines<E, N>) 
 }
 
 /// Reports a fault on standard error, unless that has failed, and returns the status to end with.
-fn end_by<E: Sink, const N: usize>(fault: &Fault<'_>, errors: &mut WholeLines<E, N>) -> Status
+fn end_by<E: Sink, const N: usize>(fault: &Fault<'_>, errors: &mut LineWriter<E, N>) -> Status
     requires ready { IsReady E.Sink errors.old }
     ensures status { result ≡ status_of_fault fault.now }
     ensures told { Tells E.Sink errors.old errors.new (line_of fault.now) }

@@ -1,5 +1,5 @@
 //! The program whole: words and streams in, status, output and complaints out.
-use burr_io::{Reading, WholeLines, Writing};
+use burr_io::{LineWriter, Reading, Writing};
 use burr_program::{Streams, run_words};
 use std::alloc::{AllocError, Global};
 use std::fs;
@@ -156,11 +156,16 @@ impl End {
 
     /// Calls the program over a reader. Few bytes of lines are held back, so that what is long is handed
     /// on in parts.
-    fn call<T: Files + AllocGlobal, R: Read + Drop>(&mut self, rt: &T, words: &[String], input: R) {
+    fn call<T: Files + AllocGlobal, R: Read + Drop>(
+        &mut self,
+        rt: &T,
+        words: &[String],
+        mut input: R,
+    ) {
         let mut io: Streams<_, _, _, 64, 64> = Streams {
-            source: Reading::new(input),
-            sink: WholeLines::new(Writing::new(&mut self.output)),
-            errors: WholeLines::new(Writing::new(&mut self.complaint)),
+            source: Reading::new(&mut input),
+            sink: LineWriter::new(Writing::new(&mut self.output)),
+            errors: LineWriter::new(Writing::new(&mut self.complaint)),
         };
         self.status = run_words(rt, words, &mut io);
     }

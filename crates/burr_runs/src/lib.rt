@@ -71,10 +71,7 @@ pub use laws::{
     an_input_has_one_output, an_upgraded_plan_is_judged_as_before, an_upgraded_plan_runs_as_before,
     answers_are_read_in_one_way,
 };
-pub use lines::{
-    put_accepted, put_clash, put_container_refusal,
-    put_place_line,
-};
+pub use lines::{put_accepted, put_clash, put_container_refusal, put_place_line};
 pub use plan_refusal::PlanRefusal;
 pub use runs::{Observer, try_observed, try_plan};
 pub use text_runs::{Outcome, bench_text, check, run_plan};

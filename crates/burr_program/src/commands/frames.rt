@@ -13,7 +13,7 @@ use crate::notes::{read_noted, reason_of_fault, try_noted, with_meaning};
 use burr_asm::{AsmFault, assemble};
 use burr_blocking::{Blocking, RowTables};
 use burr_container::Container;
-use burr_io::{Sink, WholeLines, put_all, put_words};
+use burr_io::{LineWriter, Sink, put_all, put_words};
 use burr_judge::{Refused, Status, Stop};
 use burr_lines::Unframed;
 use burr_trace::{Arrivals, Filled, Labels, MOST_RUNS, Questions, Sightings};
@@ -21,12 +21,12 @@ use itoa::Buffer;
 use std::alloc::{AllocError, Global};
 use std::rt::Files;
 
-/// After so many runs their number is reported.
+/// The number of runs is reported each time this many more were made.
 const RUNS_A_LINE: usize = 100;
 
 /// Writes a plan text to OUT, which may be no input, with a frame in place of each `auto`: one that agrees
-/// with the runs with all answers that its questions have. An `auto` for which there is none stays, and a
-/// refusal says why. After each hundred runs their number is reported on standard error.
+/// with the runs with all answers that its questions have. An `auto` stays if no frame is found for it, and a
+/// refusal says why. The number of runs is reported on standard error after each hundred.
 ///
 /// # Errors
 /// A run that does not come to its end is refused by what `try` prints of it, and OUT is left alone.
@@ -37,7 +37,7 @@ pub fn frames<'a, F: Files + AllocGlobal, W: Sink, E: Sink, const N: usize>(
     text: &'a str,
     out: &'a str,
     sink: &mut W,
-    errors: &mut WholeLines<E, N>,
+    errors: &mut LineWriter<E, N>,
 ) -> Result<Done<'a>, Stop<'a>>
     requires told { errors.old.held ≡ [] }
     ensures ends { CommandResult W.Sink sink.old sink.new
@@ -89,7 +89,7 @@ fn fill_text<'y, E: Sink, const N: usize>(
     alloc: Global,
     drawing: &SourceFile<'_>,
     source: &SourceFile<'_>,
-    errors: &mut WholeLines<E, N>,
+    errors: &mut LineWriter<E, N>,
 ) -> Result<Filled, Stop<'y>>
     requires told { errors.old.held ≡ [] }
     ensures made { IfOk result (λ filled.
@@ -119,7 +119,7 @@ fn fill_by_runs<'y, B: Blocking, E: Sink, const N: usize>(
     tables: &B,
     unframed: &Unframed<'_>,
     blank: &[u8],
-    errors: &mut WholeLines<E, N>,
+    errors: &mut LineWriter<E, N>,
 ) -> Result<Filled, Stop<'y>>
     requires told { errors.old.held ≡ [] }
     ensures made { IfOk result (λ filled. IsFilledIn unframed.now filled.text.items) }
@@ -157,7 +157,7 @@ fn make_runs<'y, B: Blocking, E: Sink, const N: usize>(
     labels: &Labels<'_, '_>,
     tables: &B,
     sightings: &mut Sightings,
-    errors: &mut WholeLines<E, N>,
+    errors: &mut LineWriter<E, N>,
 ) -> Result<&'static str, Stop<'y>>
     requires told { errors.old.held ≡ [] }
     ensures err { IfErr result (Refuses AnyText) }
@@ -223,7 +223,7 @@ fn make_run<'y, B: Blocking>(
 }
 
 /// Reports how many runs were made, unless standard error has failed.
-fn tell_runs<E: Sink, const N: usize>(count: usize, errors: &mut WholeLines<E, N>)
+fn tell_runs<E: Sink, const N: usize>(count: usize, errors: &mut LineWriter<E, N>)
     requires ready { IsReady E.Sink errors.old }
     ensures { Tells E.Sink errors.old errors.new (runs_line count) }
 {

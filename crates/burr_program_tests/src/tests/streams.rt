@@ -298,7 +298,7 @@ fn replies_to_other_words_alike(rt: HostRuntime) {
 /// How the program ends where words can't be had.
 fn end_without(kind: io::ErrorKind) -> End {
     let mut end = End::new();
-    let mut complaints: WholeLines<_, 64> = WholeLines::new(Writing::new(&mut end.complaint));
+    let mut complaints: LineWriter<_, 64> = LineWriter::new(Writing::new(&mut end.complaint));
     end.status = end_without_words(kind, &mut complaints);
     end
 }

@@ -1,5 +1,5 @@
 use Rattle.std.proofs.Common.{ℕ, List, [], refl, subst}
-use Rattle.burr_io.specs.WholeLines.{lines_view}
+use Rattle.burr_io.specs.LineWriter.{lines_view}
 use Rattle.burr_judge.specs.PlanEnds.{never}
 use Rattle.burr_program.specs.Commands.{CommandResult, ExplainDone}
 use Rattle.burr_program.specs.ExplainEnds.{CannotExplain, ExplainEnds}
