@@ -14,7 +14,7 @@ use Rattle.burr_c.specs.Statuses.{status_of_fault}
 use Rattle.burr_io.specs.Sink.{SinkView}
 use Rattle.burr_io.specs.Source.{SourceView}
 use Rattle.burr_io.specs.LineWriter.{Lines, lines_view}
-use Rattle.burr_io.specs.declared.writing.Kept.{VecSink}
+use Rattle.burr_io.specs.declared.writing.VecSink.{VecSink}
 use Rattle.burr_runs.specs.Views.BenchText.{streams}
 use Rattle.burr_judge.specs.declared.status.Status.{Status}
 use Rattle.burr_judge.specs.declared.status.Status.TheVariants.{Done, Refused}
