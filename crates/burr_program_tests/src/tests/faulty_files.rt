@@ -21,6 +21,7 @@ pub enum Failing<'a> {
 /// Logs the calls on files, and lets one of them fail.
 #[derive(Drop)]
 pub struct Calls<'a> {
+    alloc: Global,
     failing: Failing<'a>,
     has_failed: Cell<bool>,
     made: Cell<usize>,
@@ -33,6 +34,7 @@ pub struct Calls<'a> {
 impl<'a> Calls<'a> {
     pub fn new(alloc: Global, failing: Failing<'a>) -> Calls<'a> {
         Calls {
+            alloc,
             failing,
             has_failed: Cell::new(false),
             made: Cell::new(0),
@@ -230,7 +232,8 @@ impl<'a, T: Files> Files for Faulty<'a, T> {
     }
 
     fn rename(&self, from: &str, to: &str) -> io::Result<()> {
-        self.calls.make("rename", format_args!("{from} {to}"))?;
+        let names = format!(in self.calls.alloc; "{from} {to}")?;
+        self.calls.make("rename", names.as_str())?;
         self.rt.rename(from, to)
     }
 
