@@ -1,4 +1,5 @@
-//! Which calls on files each command makes, and in which order. The tests share one folder.
+//! Which calls on files each command makes, and in which order. The tests share one folder, where each makes its
+//! files anew.
 use super::faulty_files::{Calls, Failing, Faulty};
 use super::transcript::{add, assert_examples, digit};
 use super::*;
