@@ -29,20 +29,20 @@ enum burr_status {
 
 /* The library's own functions. An input is a pointer and a number of bytes; the pointer is never
    null, also where there are no bytes. *size becomes the number of bytes that there are to print.
-   The room takes as many of them as it has bytes, from the first on, and keeps its other bytes. The
-   bytes of the room and *size have to be initialised, and none of them may be one of an input. */
+   The buffer takes as many of them as it has bytes, from the first on, and keeps its other bytes. The
+   bytes of the buffer and *size have to be initialised, and none of them may be one of an input. */
 uint8_t burr_check(const uint8_t *assembly, size_t assembly_length, const uint8_t *plan,
-                   size_t plan_length, uint8_t *room, size_t room_length, size_t *size);
+                   size_t plan_length, uint8_t *buffer, size_t buffer_length, size_t *size);
 uint8_t burr_run(const uint8_t *assembly, size_t assembly_length, const uint8_t *plan,
-                 size_t plan_length, const uint8_t *answers, size_t answers_length, uint8_t *room,
-                 size_t room_length, size_t *size);
+                 size_t plan_length, const uint8_t *answers, size_t answers_length, uint8_t *buffer,
+                 size_t buffer_length, size_t *size);
 uint8_t burr_try(const uint8_t *assembly, size_t assembly_length, const uint8_t *plan,
-                 size_t plan_length, const uint8_t *answers, size_t answers_length, uint8_t *room,
-                 size_t room_length, size_t *size);
+                 size_t plan_length, const uint8_t *answers, size_t answers_length, uint8_t *buffer,
+                 size_t buffer_length, size_t *size);
 uint8_t burr_step_through(const uint8_t *assembly, size_t assembly_length, const uint8_t *plan,
                           size_t plan_length, const uint8_t *commands, size_t commands_length,
-                          uint8_t *room, size_t room_length, size_t *size);
-uint8_t burr_assemble(const uint8_t *text, size_t text_length, uint8_t *room, size_t room_length,
+                          uint8_t *buffer, size_t buffer_length, size_t *size);
+uint8_t burr_assemble(const uint8_t *text, size_t text_length, uint8_t *buffer, size_t buffer_length,
                       size_t *size);
 
 /* A run that is kept between calls. It begins closed, as {NULL, false}. While it is open it is
@@ -82,7 +82,7 @@ struct burr_halt {
    `ready D`, or the refusal of the assembly or of the plan, which is a container. The handle is
    open exactly where the status is BURR_DONE. A drive that it had is closed before. */
 uint8_t burr_drive_open(const uint8_t *assembly, size_t assembly_length, const uint8_t *plan,
-                        size_t plan_length, uint8_t *room, size_t room_length, size_t *size,
+                        size_t plan_length, uint8_t *buffer, size_t buffer_length, size_t *size,
                         struct burr_handle *run);
 /* BURR_DONE: the next move is made, and *move tells it. BURR_WAITING or BURR_ENDED: there is none
    now, as *halt tells, and nothing has changed. */
@@ -103,13 +103,13 @@ void burr_drive_close(struct burr_handle *run);
    plan, which is a container. The handle is open exactly where the status is BURR_DONE. A run that it
    had is closed before; burr_drive_close closes the stepper. */
 uint8_t burr_step_open(const uint8_t *assembly, size_t assembly_length, const uint8_t *plan,
-                       size_t plan_length, uint8_t *room, size_t room_length, size_t *size,
+                       size_t plan_length, uint8_t *buffer, size_t buffer_length, size_t *size,
                        struct burr_handle *run);
 /* Takes a command, a line without its end, and prints what answers it. BURR_DONE also where the
    command is refused. BURR_NO_MEMORY: it is not taken; or it is, and its answer is lost, and `show`
    tells where the run stands. `quit` is answered by nothing, and changes nothing. */
 uint8_t burr_step_command(struct burr_handle *run, const uint8_t *line, size_t line_length,
-                          uint8_t *room, size_t room_length, size_t *size);
+                          uint8_t *buffer, size_t buffer_length, size_t *size);
 
 /* Bytes of the caller's. Where there are none the pointer may be null. */
 struct burr_bytes {
@@ -176,7 +176,7 @@ static inline const uint8_t *burr_pointer_(struct burr_bytes bytes)
     return bytes.length == 0 ? nothing : (const uint8_t *)bytes.at;
 }
 
-static inline int burr_call_(enum burr_command_ command, struct burr_inputs_ in, uint8_t *room,
+static inline int burr_call_(enum burr_command_ command, struct burr_inputs_ in, uint8_t *buffer,
                              size_t length, size_t *size)
 {
     const uint8_t *text = burr_pointer_(in.text);
@@ -184,25 +184,25 @@ static inline int burr_call_(enum burr_command_ command, struct burr_inputs_ in,
     const uint8_t *more = burr_pointer_(in.more);
     switch (command) {
     case BURR_CHECK_:
-        return burr_check(text, in.text.length, plan, in.plan.length, room, length, size);
+        return burr_check(text, in.text.length, plan, in.plan.length, buffer, length, size);
     case BURR_RUN_:
-        return burr_run(text, in.text.length, plan, in.plan.length, more, in.more.length, room,
+        return burr_run(text, in.text.length, plan, in.plan.length, more, in.more.length, buffer,
                         length, size);
     case BURR_TRY_:
-        return burr_try(text, in.text.length, plan, in.plan.length, more, in.more.length, room,
+        return burr_try(text, in.text.length, plan, in.plan.length, more, in.more.length, buffer,
                         length, size);
     case BURR_DRIVE_:
-        return burr_drive_open(text, in.text.length, plan, in.plan.length, room, length, size,
+        return burr_drive_open(text, in.text.length, plan, in.plan.length, buffer, length, size,
                                in.run);
     case BURR_STEPPER_:
-        return burr_step_open(text, in.text.length, plan, in.plan.length, room, length, size,
+        return burr_step_open(text, in.text.length, plan, in.plan.length, buffer, length, size,
                               in.run);
     default:
-        return burr_assemble(text, in.text.length, room, length, size);
+        return burr_assemble(text, in.text.length, buffer, length, size);
     }
 }
 
-/* All that is printed. A room that was too small is replaced by one that is large enough, and the
+/* All that is printed. A buffer that was too small is replaced by one that is large enough, and the
    call is made again: it prints the same. */
 static inline int burr_print_(enum burr_command_ command, struct burr_inputs_ in,
                               struct burr_text *out)
@@ -213,16 +213,16 @@ static inline int burr_print_(enum burr_command_ command, struct burr_inputs_ in
     for (;;) {
         size_t size = 0;
         int status;
-        char *room = (char *)calloc(length + 1, 1);
-        if (room == NULL)
+        char *buffer = (char *)calloc(length + 1, 1);
+        if (buffer == NULL)
             return BURR_NO_MEMORY;
-        status = burr_call_(command, in, (uint8_t *)room, length, &size);
+        status = burr_call_(command, in, (uint8_t *)buffer, length, &size);
         if (size <= length) {
-            out->at = room;
+            out->at = buffer;
             out->length = size;
             return status;
         }
-        free(room);
+        free(buffer);
         length = size;
     }
 }
@@ -299,7 +299,7 @@ static inline int burr_open_lines_(enum burr_command_ command, struct burr_handl
     in.run = run;
     status = burr_hand_lines_(command, in, take, context);
     if (status != BURR_DONE)
-        burr_drive_close(run); /* also where no room was to be had */
+        burr_drive_close(run); /* also if out of memory */
     return status;
 }
 
@@ -337,16 +337,16 @@ static inline int burr_stepper_open(struct burr_stepper *stepper, struct burr_by
 static inline int burr_stepper_command(struct burr_stepper *stepper, const char *command,
                                        burr_line *take, void *context)
 {
-    char room[BURR_ANSWER_] = {0};
+    char buffer[BURR_ANSWER_] = {0};
     struct burr_bytes line = burr_bytes_of(command, strlen(command));
     struct burr_text text;
     size_t size = 0;
     int status;
     if (stepper->has_quit)
         return BURR_DONE;
-    status = burr_step_command(&stepper->run, burr_pointer_(line), line.length, (uint8_t *)room,
+    status = burr_step_command(&stepper->run, burr_pointer_(line), line.length, (uint8_t *)buffer,
                                BURR_ANSWER_, &size);
-    text.at = room;
+    text.at = buffer;
     text.length = size;
     burr_hand_over_(&text, 0, take, context);
     stepper->has_quit = status == BURR_DONE && size == 0;

@@ -2,7 +2,7 @@
 //! streams of the operating system, and exits with the status that it returns.
 #![tactic(auto)]
 
-use burr_io::{Reading, WholeLines, Writing};
+use burr_io::{LineWriter, Reading, Writing};
 use burr_program::{Streams, end_without_words, run_words};
 use std::process::ExitCode;
 use std::{env, io};
@@ -15,8 +15,8 @@ const HELD_ERRORS: usize = 2_048;
 fn main(rt: HostRuntime) -> ExitCode {
     let mut io: Streams<_, _, _, HELD, HELD_ERRORS> = Streams {
         source: Reading::new(rt.reader()),
-        sink: WholeLines::new(Writing::new(rt.stdout())),
-        errors: WholeLines::new(Writing::new(rt.stderr())),
+        sink: LineWriter::new(Writing::new(rt.stdout())),
+        errors: LineWriter::new(Writing::new(rt.stderr())),
     };
     let status = match words(&rt) {
         Ok(words) => run_words(&rt, &words, &mut io),

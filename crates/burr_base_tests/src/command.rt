@@ -590,6 +590,12 @@ $burr run assembly
 !Usage: burr run <ASSEMBLY> <PLAN>
 !
 !For more information, try '--help'.
+$burr list x -- 
+!error: unexpected argument '' found
+!
+!Usage: burr list [OPTIONS] <PLAN>
+!
+!For more information, try '--help'.
 $burr check assembly plan 2
 !error: unexpected argument '2' found
 !
@@ -652,6 +658,8 @@ $burr try a b
 =try a b
 $burr step a b
 =step a b
+$burr drive a b
+=drive a b
 $burr explain V15
 =explain V15
 $burr explain refused V15 proc 0 pc 24 pieces A B point 0 -1
@@ -666,6 +674,28 @@ $burr frames a t o
 =frames a t o
 $burr plan a s o
 =plan a s o
+$burr asm a -- b;burr asm a b --
+=asm a b
+$burr cells -x
+=cells -x
+$burr check a --places
+=check a --places
+$burr step -- a b
+=step a b
+$burr list -- --places
+=list --places
+$burr list --places -- --places
+=list --places --places
+$burr judge --null --
+=judge --null
+$burr explain -- a b
+=explain a b
+$burr explain a -- b
+=explain a -- b
+$burr explain -- -- a
+=explain -- a
+$burr explain a --help
+=explain a --help
 ";
 
 #[test]

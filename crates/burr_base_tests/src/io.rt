@@ -6,7 +6,7 @@ use std::alloc::{AllocError, Global};
 use std::io::{Cursor, ErrorKind};
 use std::process::Abort;
 
-mod whole_lines;
+mod line_writer;
 
 /// What a reader gives: at each call its number.
 const NUMBERS: [u8; 8] = [0, 1, 2, 3, 4, 5, 6, 7];

@@ -10,8 +10,8 @@ use Rattle.burr_step.specs.Views.Driving.{Driving, IsReady, MovesOn, Goes, Arriv
 use Rattle.burr_judge.specs.OpenEnds.{Beginnings, IsOpened}
 use Rattle.burr_c.specs.declared.handle.KeptRun.{KeptRun}
 use Rattle.burr_c.specs.declared.handle.KeptRun.TheVariants.{Drive, Stepper}
-use Rattle.burr_c.specs.declared.drive.Came.{Came}
-use Rattle.burr_c.specs.declared.drive.Came.TheVariants.{Done, Refused, Waiting, Ended, Closed}
+use Rattle.burr_c.specs.declared.drive.DriveStatus.{DriveStatus}
+use Rattle.burr_c.specs.declared.drive.DriveStatus.TheVariants.{Done, Refused, Waiting, Ended, Closed}
 use Rattle.burr_c.specs.declared.drive.ToldMove.{ToldMove}
 use Rattle.burr_c.specs.declared.drive.ToldHalt.{ToldHalt}
 
@@ -51,7 +51,7 @@ told_halt (Ends steps) = record {
 }
 
 -- what a call returns
-abbrev pub code_of : Came → ℕ
+abbrev pub code_of : DriveStatus → ℕ
 code_of Done = 0
 code_of Refused = 1
 code_of Waiting = 5
@@ -59,7 +59,7 @@ code_of Ended = 6
 code_of Closed = 7
 
 -- what a call came to at a halt
-abbrev pub halted : Halt → Came
+abbrev pub halted : Halt → DriveStatus
 halted (Asks question) = Waiting
 halted (Ends steps) = Ended
 
@@ -117,7 +117,7 @@ GoComes number (Some (Drive old)) new was halt code =
     × Arrives number (setup_of old.bench) came (led_of d) × TellsArrival came was halt code))
 
 -- an answer was taken, or not
-abbrev pub answered : Bool → Came
+abbrev pub answered : Bool → DriveStatus
 answered true = Done
 answered false = Refused
 

@@ -6,7 +6,7 @@ use Rattle.burr_judge.specs.OpenEnds.{Beginnings}
 use Rattle.burr_judge.specs.Views.Commanding.{IsAnswerLine, StepAnswers}
 use Rattle.burr_c.specs.declared.handle.KeptRun.{KeptRun}
 use Rattle.burr_c.specs.declared.handle.KeptRun.TheVariants.{Drive, Stepper}
-use Rattle.burr_c.specs.declared.drive.Came.TheVariants.{Closed}
+use Rattle.burr_c.specs.declared.drive.DriveStatus.TheVariants.{Closed}
 use Rattle.burr_c.specs.Calls.{Call, Gives}
 use Rattle.burr_c.specs.DriveCalls.{code_of}
 

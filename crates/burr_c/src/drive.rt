@@ -23,17 +23,17 @@ pub extern "C" fn burr_drive_open(
     alloc: Global,
     assembly: &[u8],
     plan: &[u8],
-    room: &mut [u8],
+    buffer: &mut [u8],
     size: &mut usize,
     run: &mut Handle,
 ) -> u8
     ensures printed { Returns (IsEitherTooLong assembly.now plan.now)
         (OpenEnds (ReadyEnds assembly.now plan.now) assembly.now plan.now)
-        (call room.old room.new size.new result) }
+        (call buffer.old buffer.new size.new result) }
     ensures opened { OpensAs DriveBegins assembly.now plan.now result run.new.value }
 {
     let printed = open(alloc, assembly, plan, run);
-    give(printed, room, size)
+    give(printed, buffer, size)
 }
 
 /// Opens a drive in the handle, where the plan is accepted: what there is to print.
@@ -76,20 +76,20 @@ pub extern "C" fn burr_drive_next(
         (told step.old step.new halt.old halt.new result) }
 {
     let Some(mut open) = run.take(alloc) else {
-        return Came::Closed.code();
+        return DriveStatus::Closed.code();
     };
     let came = match &mut *open {
         KeptRun::Drive(drive) => match drive.next() {
             Ok(made) => {
                 *step = ToldMove::of(made);
-                Came::Done
+                DriveStatus::Done
             }
             Err(why) => {
                 *halt = ToldHalt::of(why);
-                Came::at(why)
+                DriveStatus::at(why)
             }
         },
-        KeptRun::Stepper(_) => Came::Closed,
+        KeptRun::Stepper(_) => DriveStatus::Closed,
     };
     run.put(alloc, open);
     came.code()
@@ -108,18 +108,18 @@ pub extern "C" fn burr_drive_goto(
     ensures { GoComes number run.old.value run.new.value halt.old halt.new result }
 {
     let Some(mut open) = run.take(alloc) else {
-        return Came::Closed.code();
+        return DriveStatus::Closed.code();
     };
     let came = match &mut *open {
-        KeptRun::Drive(drive) if number < drive.moves() => Came::Refused,
+        KeptRun::Drive(drive) if number < drive.moves() => DriveStatus::Refused,
         KeptRun::Drive(drive) => match drive.go_to(number) {
-            Ok(()) => Came::Done,
+            Ok(()) => DriveStatus::Done,
             Err(why) => {
                 *halt = ToldHalt::of(why);
-                Came::at(why)
+                DriveStatus::at(why)
             }
         },
-        KeptRun::Stepper(_) => Came::Closed,
+        KeptRun::Stepper(_) => DriveStatus::Closed,
     };
     run.put(alloc, open);
     came.code()
@@ -137,17 +137,17 @@ pub extern "C" fn burr_drive_answer(
     ensures { AnswerComes question answer run.old.value run.new.value result }
 {
     let Some(mut open) = run.take(alloc) else {
-        return Came::Closed.code();
+        return DriveStatus::Closed.code();
     };
     let came = match &mut *open {
         KeptRun::Drive(drive) => {
             if drive.answer(question, answer) {
-                Came::Done
+                DriveStatus::Done
             } else {
-                Came::Refused
+                DriveStatus::Refused
             }
         }
-        KeptRun::Stepper(_) => Came::Closed,
+        KeptRun::Stepper(_) => DriveStatus::Closed,
     };
     run.put(alloc, open);
     came.code()
@@ -246,7 +246,7 @@ impl ToldHalt {
 
 /// What a call of a drive came to, as it returns it.
 #[derive(Clone, Copy, Debug, PartialEq, Eq)]
-pub enum Came {
+pub enum DriveStatus {
     /// What was asked is done: a move is made, or an answer taken.
     Done,
     /// The command is refused, and nothing has changed.
@@ -259,14 +259,14 @@ pub enum Came {
     Closed,
 }
 
-impl Came {
+impl DriveStatus {
     /// What a call came to where the run halted so.
-    pub fn at(halt: Halt) -> Came
+    pub fn at(halt: Halt) -> DriveStatus
         ensures { result ≡ halted halt }
     {
         match halt {
-            Halt::Asks(_question) => Came::Waiting,
-            Halt::Ends(_steps) => Came::Ended,
+            Halt::Asks(_question) => DriveStatus::Waiting,
+            Halt::Ends(_steps) => DriveStatus::Ended,
         }
     }
 
@@ -275,11 +275,11 @@ impl Came {
         ensures { result ≡ code_of self }
     {
         match self {
-            Came::Done => 0,
-            Came::Refused => 1,
-            Came::Waiting => 5,
-            Came::Ended => 6,
-            Came::Closed => 7,
+            DriveStatus::Done => 0,
+            DriveStatus::Refused => 1,
+            DriveStatus::Waiting => 5,
+            DriveStatus::Ended => 6,
+            DriveStatus::Closed => 7,
         }
     }
 }

@@ -5,8 +5,8 @@ ghost use Rattle.burr_c.specs.declared.handle.KeptRun.{KeptRun as KeptRunOf};
 ghost use Rattle.burr_c.specs.Boxed.{C};
 ghost use Rattle.burr_c.specs.Keeps.{keeps, owns_block};
 
-use burr_judge::KeptStepper;
-use burr_step::KeptDrive;
+use burr_judge::OwnedStepper;
+use burr_step::OwnedDrive;
 use std::alloc::Global;
 use std::marker::Model;
 use std::mem::replace;
@@ -80,9 +80,9 @@ impl Handle {
 #[derive(Drop)]
 pub enum KeptRun {
     /// It is led move by move.
-    Drive(KeptDrive),
+    Drive(OwnedDrive),
     /// It is gone through step by step.
-    Stepper(KeptStepper),
+    Stepper(OwnedStepper),
 }
 
 // A box as its pointer, so that a handle can keep the pointer.

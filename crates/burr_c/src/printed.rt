@@ -18,13 +18,13 @@ ghost use Rattle.burr_judge.specs.Refusals.{plan_text_refusal};
 ghost use Rattle.burr_c.specs.Statuses.{status_of_fault};
 
 use burr_asm::{AsmFault, assemble};
-use burr_io::{Kept, Reading, WholeLines, WriteFault};
+use burr_io::{LineWriter, Reading, VecSink, WriteFault};
 use burr_judge::{
-    KeptStepper, Status, StepFault, Stop, Task, judge_text, open_drive, open_stepper, report,
+    OwnedStepper, Status, StepFault, Stop, Task, judge_text, open_drive, open_stepper, report,
     step_text,
 };
 use burr_runs::LIMIT;
-use burr_step::KeptDrive;
+use burr_step::OwnedDrive;
 use std::alloc::Global;
 use thiserror::Error;
 
@@ -115,7 +115,7 @@ pub fn print_judgement(
     if is_too_long(text) || is_too_long(container) || is_too_long(answers) {
         return Err(CallFault::TooLong);
     }
-    let mut kept = Kept::new(alloc);
+    let mut kept = VecSink::new(alloc);
     let done = judge_text(alloc, task, text, container, answers, &mut kept);
     let status = report(done, &mut kept)?;
     Ok(Printed {
@@ -143,7 +143,7 @@ pub fn print_steps(
         return Err(CallFault::TooLong);
     }
     let mut source = Reading::new(commands);
-    let mut sink: WholeLines<_, HELD> = WholeLines::new(Kept::new(alloc));
+    let mut sink: LineWriter<_, HELD> = LineWriter::new(VecSink::new(alloc));
     let done = step_text(alloc, text, container, &mut source, &mut sink);
     let status = report(done, &mut sink)?;
     Ok(print_lines(status, sink)?)
@@ -156,7 +156,7 @@ pub fn print_ready(
     alloc: Global,
     text: &[u8],
     container: &[u8],
-) -> Result<(Printed, Option<KeptDrive>), CallFault>
+) -> Result<(Printed, Option<OwnedDrive>), CallFault>
     ensures ok { IfOk result (λ ready. OpenEnds (ReadyEnds text.now container.now) text.now
         container.now ready.0.bytes.items ready.0.status) }
     ensures opens { IfOk result (λ ready.
@@ -168,7 +168,7 @@ pub fn print_ready(
     if is_too_long(text) || is_too_long(container) {
         return Err(CallFault::TooLong);
     }
-    let mut lines: WholeLines<_, HELD> = WholeLines::new(Kept::new(alloc));
+    let mut lines: LineWriter<_, HELD> = LineWriter::new(VecSink::new(alloc));
     match open_drive(alloc, text, container, &mut lines) {
         Ok(drive) => Ok((print_lines(Status::Done, lines)?, Some(drive))),
         Err(stop) => {
@@ -179,7 +179,7 @@ pub fn print_ready(
 }
 
 /// Flushes what is held back, and returns all that was written, with a status.
-fn print_lines(status: Status, mut lines: WholeLines<Kept, HELD>) -> Result<Printed, WriteFault>
+fn print_lines(status: Status, mut lines: LineWriter<VecSink, HELD>) -> Result<Printed, WriteFault>
     ensures ok { IfOk result (λ printed. HoldsAll lines printed.bytes.items) }
     ensures status { IfOk result (λ printed. printed.status ≡ status) }
 {
@@ -197,7 +197,7 @@ pub fn print_opening(
     alloc: Global,
     text: &[u8],
     container: &[u8],
-) -> Result<(Printed, Option<KeptStepper>), CallFault>
+) -> Result<(Printed, Option<OwnedStepper>), CallFault>
     ensures ok { IfOk result (λ opened.
         OpenEnds NothingEnds text.now container.now opened.0.bytes.items opened.0.status) }
     ensures opens { IfOk result (λ opened.
@@ -209,7 +209,7 @@ pub fn print_opening(
     if is_too_long(text) || is_too_long(container) {
         return Err(CallFault::TooLong);
     }
-    let mut kept = Kept::new(alloc);
+    let mut kept = VecSink::new(alloc);
     match open_stepper(alloc, text, container) {
         Ok(stepper) => {
             let printed = Printed {
@@ -233,7 +233,7 @@ pub fn print_opening(
 /// refused: then the line counts as not given, or it was taken and its answer is lost.
 pub fn print_answer(
     alloc: Global,
-    stepper: &mut KeptStepper,
+    stepper: &mut OwnedStepper,
     line: &[u8],
 ) -> Result<Printed, CallFault>
     ensures ok { IfOk result (λ printed.
@@ -242,7 +242,7 @@ pub fn print_answer(
     ensures err { IfErr result (λ fault.
         (fault ≡ Memory) × LosesAnswer stepper.old line.now stepper.new) }
 {
-    let mut kept = Kept::new(alloc);
+    let mut kept = VecSink::new(alloc);
     stepper.command(line, &mut kept)?;
     Ok(Printed {
         bytes: kept.into_bytes(),
@@ -277,7 +277,7 @@ fn print_text_refusal(alloc: Global, fault: AsmFault) -> Result<Printed, CallFau
     ensures some { IfOk result (λ _. fault ≢ asm.Memory) }
     ensures memory { IfErr result (λ fault. fault ≡ Memory) }
 {
-    let mut kept = Kept::new(alloc);
+    let mut kept = VecSink::new(alloc);
     let status = report(Err(Stop::from(fault)), &mut kept)?;
     Ok(Printed {
         bytes: kept.into_bytes(),
@@ -292,17 +292,17 @@ fn is_too_long(bytes: &[u8]) -> bool
     bytes.len() > LIMIT
 }
 
-/// Copies what is printed to the front of the caller's room, as far as it goes there, tells how
+/// Copies what is printed to the front of the caller's buffer, as far as it goes there, tells how
 /// many bytes are printed, and gives the number of the status. After a fault no byte is printed.
-pub fn give(printed: Result<Printed, CallFault>, room: &mut [u8], size: &mut usize) -> u8
+pub fn give(printed: Result<Printed, CallFault>, buffer: &mut [u8], size: &mut usize) -> u8
     ensures ok { IfOk printed (λ printed. Gives printed.bytes.items printed.status
-        (call room.old room.new size.new result)) }
+        (call buffer.old buffer.new size.new result)) }
     ensures err { IfErr printed (λ fault. Gives [] (status_of_fault fault)
-        (call room.old room.new size.new result)) }
+        (call buffer.old buffer.new size.new result)) }
 {
     match printed {
         Ok(printed) => {
-            copy_front(&printed.bytes, room);
+            copy_front(&printed.bytes, buffer);
             *size = printed.bytes.len();
             printed.status.code()
         }
@@ -313,10 +313,10 @@ pub fn give(printed: Result<Printed, CallFault>, room: &mut [u8], size: &mut usi
     }
 }
 
-/// Copies bytes to the front of a room, as many as it takes.
-fn copy_front(bytes: &[u8], room: &mut [u8])
-    ensures { room.new ≡ take (length room.old) bytes.now ++ drop (length bytes.now) room.old }
+/// Copies bytes to the front of a buffer, as many as it takes.
+fn copy_front(bytes: &[u8], buffer: &mut [u8])
+    ensures { buffer.new ≡ take (length buffer.old) bytes.now ++ drop (length bytes.now) buffer.old }
 {
-    let count = bytes.len().min(room.len());
-    room[..count].copy_from_slice(&bytes[..count]);
+    let count = bytes.len().min(buffer.len());
+    buffer[..count].copy_from_slice(&bytes[..count]);
 }

@@ -8,7 +8,7 @@ ghost use Rattle.burr_c.specs.Calls.{IsEitherTooLong, Returns, call};
 ghost use Rattle.burr_c.specs.OpenCalls.{NothingEnds, Opens, OpensAs};
 ghost use Rattle.burr_c.specs.StepCalls.{CommandComes, StepperBegins};
 
-use crate::drive::Came;
+use crate::drive::DriveStatus;
 use crate::handle::{Handle, KeptRun};
 use crate::printed::{CallFault, Printed, give, print_answer, print_opening};
 use std::alloc::Global;
@@ -21,17 +21,17 @@ pub extern "C" fn burr_step_open(
     alloc: Global,
     assembly: &[u8],
     plan: &[u8],
-    room: &mut [u8],
+    buffer: &mut [u8],
     size: &mut usize,
     run: &mut Handle,
 ) -> u8
     ensures printed { Returns (IsEitherTooLong assembly.now plan.now)
         (OpenEnds NothingEnds assembly.now plan.now)
-        (call room.old room.new size.new result) }
+        (call buffer.old buffer.new size.new result) }
     ensures opened { OpensAs StepperBegins assembly.now plan.now result run.new.value }
 {
     let printed = open(alloc, assembly, plan, run);
-    give(printed, room, size)
+    give(printed, buffer, size)
 }
 
 /// Opens a stepper in the handle, where the plan is accepted: what there is to print.
@@ -69,19 +69,19 @@ pub extern "C" fn burr_step_command(
     alloc: Global,
     run: &mut Handle,
     line: &[u8],
-    room: &mut [u8],
+    buffer: &mut [u8],
     size: &mut usize,
 ) -> u8
     ensures { CommandComes line.now run.old.value run.new.value
-        (call room.old room.new size.new result) }
+        (call buffer.old buffer.new size.new result) }
 {
     *size = 0;
     let Some(mut open) = run.take(alloc) else {
-        return Came::Closed.code();
+        return DriveStatus::Closed.code();
     };
     let code = match &mut *open {
-        KeptRun::Stepper(stepper) => give(print_answer(alloc, stepper, line), room, size),
-        KeptRun::Drive(_) => Came::Closed.code(),
+        KeptRun::Stepper(stepper) => give(print_answer(alloc, stepper, line), buffer, size),
+        KeptRun::Drive(_) => DriveStatus::Closed.code(),
     };
     run.put(alloc, open);
     code

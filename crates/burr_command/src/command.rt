@@ -3,29 +3,8 @@
 use clap::{Arg, ArgAction, Command};
 use std::alloc::{AllocError, Global};
 
-/// The commands, in the order in which help lists them.
-#[derive(Clone, Copy)]
-pub enum Kind {
-    Cells,
-    Assemble,
-    List,
-    Upgrade,
-    Check,
-    Judge,
-    Run,
-    Try,
-    Step,
-    Drive,
-    Why,
-    Trace,
-    Frames,
-    PlanSheet,
-    Explain,
-}
-
 /// A command by its name, with what may stand after it.
 struct Syntax {
-    kind: Kind,
     name: &'static str,
     about: &'static str,
     /// What its help says last.
@@ -53,7 +32,6 @@ const PLAN: Argument = Argument::Word("PLAN", "The container");
 /// The words of each command, in the order in which help lists them.
 const COMMANDS: &[Syntax] = &[
     Syntax {
-        kind: Kind::Cells,
         name: "cells",
         about: "Prints the cells in which the pieces of an assembly lie",
         after_help: "\
@@ -65,7 +43,6 @@ Example: ./burr cells examples/cup.assembly",
         arguments: &[ASSEMBLY],
     },
     Syntax {
-        kind: Kind::Assemble,
         name: "asm",
         about: "Assembles a plan text into a container",
         after_help: "\
@@ -77,7 +54,6 @@ Example: ./burr asm examples/ring.plan /tmp/ring.bpln",
         arguments: &[TEXT, Argument::Word("OUT", "The container that is made")],
     },
     Syntax {
-        kind: Kind::List,
         name: "list",
         about: "Prints the plan text of a container",
         after_help: "\
@@ -91,7 +67,6 @@ Example: ./burr list /tmp/ring.bpln",
         ],
     },
     Syntax {
-        kind: Kind::Upgrade,
         name: "upgrade",
         about: "Makes the container of version 2 of a plan",
         after_help: "\
@@ -104,7 +79,6 @@ Example: ./burr upgrade /tmp/ring.bpln /tmp/ring2.bpln",
         arguments: &[PLAN, Argument::Word("OUT", "The container that is made")],
     },
     Syntax {
-        kind: Kind::Check,
         name: "check",
         about: "Says whether a plan is accepted",
         after_help: "\
@@ -117,7 +91,6 @@ Example: ./burr check examples/cup.assembly /tmp/cup.bpln",
         arguments: &[ASSEMBLY, PLAN],
     },
     Syntax {
-        kind: Kind::Judge,
         name: "judge",
         about: "Says whether plans are accepted, pair by pair",
         after_help: "\
@@ -138,7 +111,6 @@ Example: printf 'examples/cup.assembly\\texamples/cup.plan\\n' | ./burr judge",
         )],
     },
     Syntax {
-        kind: Kind::Run,
         name: "run",
         about: "Runs a plan that is accepted",
         after_help: "\
@@ -151,7 +123,6 @@ Example: echo 2 | ./burr run examples/cup.assembly /tmp/cup.bpln",
         arguments: &[ASSEMBLY, PLAN],
     },
     Syntax {
-        kind: Kind::Try,
         name: "try",
         about: "Runs a plan on the bench, without accepting it",
         after_help: "\
@@ -163,7 +134,6 @@ Example: echo 2 | ./burr try examples/cup.assembly /tmp/cup.bpln",
         arguments: &[ASSEMBLY, PLAN],
     },
     Syntax {
-        kind: Kind::Step,
         name: "step",
         about: "Goes through a plan that is accepted, step by step",
         after_help: "\
@@ -187,7 +157,6 @@ Example: echo forward | ./burr step examples/cup.assembly /tmp/cup.bpln",
         arguments: &[ASSEMBLY, PLAN],
     },
     Syntax {
-        kind: Kind::Drive,
         name: "drive",
         about: "Leads a gripper through a plan that is accepted, move by move",
         after_help: "\
@@ -215,7 +184,6 @@ Example: echo next | ./burr drive examples/cup.assembly examples/cup.plan",
         ],
     },
     Syntax {
-        kind: Kind::Why,
         name: "why",
         about: "Says why a plan text is refused, and which lines are at fault",
         after_help: "\
@@ -228,7 +196,6 @@ Example: ./burr why examples/cup.assembly examples/cup.plan",
         arguments: &[ASSEMBLY, TEXT],
     },
     Syntax {
-        kind: Kind::Trace,
         name: "trace",
         about: "Runs a plan text, and prints what holds at each label",
         after_help: "\
@@ -244,7 +211,6 @@ Example: echo 2 | ./burr trace examples/cup.assembly examples/cup.plan",
         arguments: &[ASSEMBLY, TEXT],
     },
     Syntax {
-        kind: Kind::Frames,
         name: "frames",
         about: "Fills in frames that a plan text leaves out",
         after_help: "\
@@ -264,7 +230,6 @@ Example: ./burr frames puzzle.assembly draft.plan whole.plan",
         ],
     },
     Syntax {
-        kind: Kind::PlanSheet,
         name: "plan",
         about: "Makes a plan text from a sheet of moves",
         after_help: "\
@@ -281,7 +246,6 @@ Example: ./burr plan examples/cup.assembly moves.sheet /tmp/moves.plan",
         ],
     },
     Syntax {
-        kind: Kind::Explain,
         name: "explain",
         about: "Says what a refusal, a trap or another line means",
         after_help: "\
@@ -300,23 +264,10 @@ Examples: ./burr explain A8
 /// The command line: the commands, help and the version.
 pub fn command<'a>(alloc: Global) -> Result<Command<'a>, AllocError> {
     let mut command = without_commands(alloc);
-    for syntax in commands() {
+    for syntax in COMMANDS {
         command = command.subcommand(syntax.command(alloc)?)?;
     }
     Ok(command)
-}
-
-/// The kind of the command of this name; None where there is no such command.
-pub fn kind_of(name: &str) -> Option<Kind> {
-    commands()
-        .iter()
-        .find(|syntax| syntax.name == name)
-        .map(|syntax| syntax.kind)
-}
-
-/// The commands with their words: each mention of the table itself is proved anew.
-fn commands() -> &'static [Syntax] {
-    COMMANDS
 }
 
 /// The command line without its commands.

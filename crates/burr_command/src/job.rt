@@ -1,8 +1,11 @@
 //! What words ask for.
+ghost use Rattle.std.specs.Prelude.{◌≡◌, IfOk, IfSome, codes, map, string_bytes};
+ghost use Rattle.burr_command.specs.Asking.{explained, is_flag, is_flagged, operands};
+ghost use Rattle.burr_command.specs.Asking.{AsksFor, IsAnswer, IsAsked};
 
-use crate::command::{Kind, command, kind_of};
+use crate::command::command;
 use clap::error::ErrorKind;
-use clap::{ArgMatches, Command, Error};
+use clap::{Command, Error};
 use std::alloc::{AllocError, Global};
 
 /// A command, with the words after its name.
@@ -102,96 +105,159 @@ pub enum Request<'a> {
     Job(Job<'a>),
 }
 
-/// What the words of the command line ask for: a job, or a reply. The first word is the program's
-/// name, and there are more. A reply is help or the version where the words ask for it, else what
-/// is wrong with them. An error is a want of memory.
-pub fn request_of<'a>(alloc: Global, words: &'a [String]) -> Result<Request<'a>, AllocError> {
+/// Returns what the words of a command line ask for: a job, or a reply. The first word is the
+/// program's name, and there are more. A reply is help or the version if the words ask for it, else
+/// it says what is wrong with them.
+pub fn request_of<'a>(alloc: Global, words: &'a [String]) -> Result<Request<'a>, AllocError>
+    ensures { IfOk result (IsAnswer (map string_bytes words.now)) }
+{
     let mut command = command(alloc)?;
-    match command.try_get_matches_from_mut(words) {
-        Ok(matches) => match job_of(alloc, &matches)? {
-            Some(job) => Ok(Request::Job(job)),
-            None => refusal_of_hyphens(alloc, command),
-        },
-        Err(error) => reply_of(alloc, &error),
+    if let Err(error) = command.try_get_matches_from_mut(words) {
+        return Ok(Request::Reply(reply_of(alloc, &error)?));
+    }
+    match job_of(alloc, words)? {
+        Some(job) => Ok(Request::Job(job)),
+        None => Ok(Request::Reply(refusal_of_hyphens(alloc, command)?)),
     }
 }
 
-/// The reply to words that have no command, but two hyphens that end the options.
-fn refusal_of_hyphens<'a>(
-    alloc: Global,
-    mut command: Command<'_>,
-) -> Result<Request<'a>, AllocError> {
+/// Returns the reply to words that name no command, but have two hyphens that end the options.
+fn refusal_of_hyphens(alloc: Global, mut command: Command<'_>) -> Result<Reply, AllocError> {
     let error = command.error(ErrorKind::UnknownArgument, "unexpected argument '--' found")?;
     reply_of(alloc, &error)
 }
 
-/// The text of what clap answers to words that it does not take.
-fn reply_of<'a>(alloc: Global, error: &Error) -> Result<Request<'a>, AllocError> {
+/// Returns what clap answers to words that it does not take.
+fn reply_of(alloc: Global, error: &Error) -> Result<Reply, AllocError> {
     if error.kind() == ErrorKind::OutOfMemory {
         return Err(AllocError);
     }
-    Ok(Request::Reply(Reply {
+    Ok(Reply {
         text: format!(in alloc; "{error}")?,
         is_fault: error.use_stderr(),
-    }))
+    })
 }
 
-/// The job of words that clap takes; None where no command is among them.
-fn job_of<'a>(alloc: Global, matches: &ArgMatches<'a>) -> Result<Option<Job<'a>>, AllocError> {
-    let Some((name, words)) = matches.subcommand() else {
+/// Returns the job of words that clap takes, or `None` if they name no command.
+fn job_of<'a>(alloc: Global, words: &'a [String]) -> Result<Option<Job<'a>>, AllocError>
+    ensures { IfOk result (λ job. IfSome job (IsAsked (map string_bytes words.now))) }
+{
+    let [_, name, rest @ ..] = words else {
         return Ok(None);
     };
-    let line = line_of(alloc, words.get_strs("LINE").unwrap_or(&[]))?;
-    Ok(kind_of(name).and_then(|kind| job_with(kind, words, line)))
+    match name.as_str() {
+        "explain" => explain_of(alloc, rest),
+        name => job_of_operands(alloc, name, rest),
+    }
 }
 
-/// Words with a blank between each two.
-fn line_of(alloc: Global, words: &[&str]) -> Result<String, AllocError> {
-    let mut line = String::new(alloc);
-    let mut separator = "";
+/// Returns the job of a command other than `explain`, from its name and the words after it, or
+/// `None` if no command of this name has that number of operands.
+fn job_of_operands<'a>(
+    alloc: Global,
+    name: &str,
+    words: &'a [String],
+) -> Result<Option<Job<'a>>, AllocError>
+    ensures { IfOk result (λ job. IfSome job (AsksFor name.now (map string_bytes words.now))) }
+{
+    let operands = operands_of(alloc, name, words)?;
+    let is_flagged = has_flag(name, words);
+    Ok(match (name, operands.as_slice()) {
+        ("cells", [assembly]) => Some(Job::Cells { assembly }),
+        ("asm", [text, out]) => Some(Job::Assemble { text, out }),
+        ("list", [plan]) => Some(Job::List {
+            plan,
+            places: is_flagged,
+        }),
+        ("upgrade", [plan, out]) => Some(Job::Upgrade { plan, out }),
+        ("check", [assembly, plan]) => Some(Job::Check { assembly, plan }),
+        ("judge", []) => Some(Job::Judge { null: is_flagged }),
+        ("run", [assembly, plan]) => Some(Job::Run { assembly, plan }),
+        ("try", [assembly, plan]) => Some(Job::Try { assembly, plan }),
+        ("step", [assembly, plan]) => Some(Job::Step { assembly, plan }),
+        ("drive", [assembly, plan]) => Some(Job::Drive { assembly, plan }),
+        ("why", [assembly, text]) => Some(Job::Why { assembly, text }),
+        ("trace", [assembly, text]) => Some(Job::Trace { assembly, text }),
+        ("frames", [assembly, text, out]) => Some(Job::Frames {
+            assembly,
+            text,
+            out,
+        }),
+        ("plan", [assembly, sheet, out]) => Some(Job::PlanSheet {
+            assembly,
+            sheet,
+            out,
+        }),
+        _ => None,
+    })
+}
+
+/// Returns the job `explain` from the words after its name, or `None` if there is nothing to
+/// explain.
+fn explain_of<'a>(alloc: Global, words: &[String]) -> Result<Option<Job<'a>>, AllocError>
+    ensures { IfOk result (λ job. IfSome job
+        (AsksFor (codes "explain") (map string_bytes words.now))) }
+{
+    let explained = explained_words(words);
+    if explained.is_empty() {
+        return Ok(None);
+    }
+    let line = explained.join(alloc, " ")?;
+    Ok(Some(Job::Explain { line }))
+}
+
+/// Returns the words to explain: all but a `--` before them.
+fn explained_words(words: &[String]) -> &[String]
+    ensures { map string_bytes result.now ≡ explained (map string_bytes words.now) }
+{
+    match words {
+        [first, rest @ ..] if first.as_str() == "--" => rest,
+        _ => words,
+    }
+}
+
+/// Returns the operands among the words after a command's name.
+fn operands_of<'a>(
+    alloc: Global,
+    name: &str,
+    words: &'a [String],
+) -> Result<Vec<&'a str>, AllocError>
+    ensures { IfOk result (λ v. map (λ operand. operand.now) v.items
+        ≡ operands name.now (map string_bytes words.now)) }
+{
+    let mut operands = Vec::new(alloc);
+    let mut is_after_hyphens = false;
     for word in words {
-        line.push_str(separator)?;
-        line.push_str(word)?;
-        separator = " ";
+        let word = word.as_str();
+        if is_after_hyphens {
+            operands.push(word)?;
+        } else if word == "--" {
+            is_after_hyphens = true;
+        } else if !is_flag(name, word) {
+            operands.push(word)?;
+        }
     }
-    Ok(line)
+    Ok(operands)
 }
 
-/// The job of a command with its words, a line to explain among them; None where one of its words
-/// is missing.
-fn job_with<'a>(kind: Kind, words: &ArgMatches<'a>, line: String) -> Option<Job<'a>> {
-    let (text, out) = (words.get_str("TEXT"), words.get_str("OUT"));
-    let (assembly, plan) = (words.get_str("ASSEMBLY"), words.get_str("PLAN"));
-    let of_plan = assembly.zip(plan);
-    let of_text = assembly.zip(text);
-    match kind {
-        Kind::Cells => assembly.map(|assembly| Job::Cells { assembly }),
-        Kind::Assemble => text.zip(out).map(|(text, out)| Job::Assemble { text, out }),
-        Kind::List => Some(Job::List {
-            plan: plan?,
-            places: words.get_flag("places"),
-        }),
-        Kind::Upgrade => plan.zip(out).map(|(plan, out)| Job::Upgrade { plan, out }),
-        Kind::Check => of_plan.map(|(assembly, plan)| Job::Check { assembly, plan }),
-        Kind::Judge => Some(Job::Judge {
-            null: words.get_flag("null"),
-        }),
-        Kind::Run => of_plan.map(|(assembly, plan)| Job::Run { assembly, plan }),
-        Kind::Try => of_plan.map(|(assembly, plan)| Job::Try { assembly, plan }),
-        Kind::Step => of_plan.map(|(assembly, plan)| Job::Step { assembly, plan }),
-        Kind::Drive => of_plan.map(|(assembly, plan)| Job::Drive { assembly, plan }),
-        Kind::Why => of_text.map(|(assembly, text)| Job::Why { assembly, text }),
-        Kind::Trace => of_text.map(|(assembly, text)| Job::Trace { assembly, text }),
-        Kind::Frames => Some(Job::Frames {
-            assembly: assembly?,
-            text: text?,
-            out: out?,
-        }),
-        Kind::PlanSheet => Some(Job::PlanSheet {
-            assembly: assembly?,
-            sheet: words.get_str("SHEET")?,
-            out: out?,
-        }),
-        Kind::Explain => Some(Job::Explain { line }),
+/// Returns whether the words after a command's name have its flag before the first `--`.
+fn has_flag(name: &str, words: &[String]) -> bool
+    ensures { result ≡ is_flagged name.now (map string_bytes words.now) }
+{
+    for word in words {
+        if word.as_str() == "--" {
+            return false;
+        }
+        if is_flag(name, word.as_str()) {
+            return true;
+        }
     }
+    false
+}
+
+/// Returns whether a word is the flag of the command of this name.
+fn is_flag(name: &str, word: &str) -> bool
+    ensures { result ≡ is_flag name.now word.now }
+{
+    matches!((name, word), ("list", "--places") | ("judge", "--null"))
 }

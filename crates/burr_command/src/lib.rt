@@ -1,15 +1,12 @@
-//! The command line: what its words ask for, help, and what is wrong with words.
+//! Reads the command line. `request_of` returns a job, which is the one that the words ask for by
+//! `specs/Asking`, or a reply to be printed.
 //!
-//! # Promised
-//! - Nothing is promised beyond safety. `request_of`, its public call, takes memory, and answers
-//!   `AllocError` where that is refused.
+//! ```text
+//! let words = ["burr", "list", "--places", "cup.bpln"];    // a Vec of String
+//! request_of(alloc, &words)?    // Request::Job(Job::List { plan: "cup.bpln", places: true })
+//! ```
 //!
-//! # Tested only
-//! - No contract says which job or reply words ask for, or which of these jobs read standard input.
-//! - No contract has the texts of help, of the version and of faults of the command line.
-//!
-//! So no must-fail edit stands in the gate; `scripts/wrong-bodies` shows three wrong bodies that
-//! its tests refuse.
+//! Only tests say which words get a reply, and what it says.
 #![tactic(auto)]
 
 mod command;

@@ -10,7 +10,7 @@ use crate::lines::{motions_of, move_lines};
 use burr_assembly::Assembly;
 use burr_blocking::Blocking;
 use burr_container::{Container, a_container_is_of_one_plan, containers_are_unique, write};
-use burr_io::Kept;
+use burr_io::VecSink;
 use burr_plantext::list;
 use burr_runs::{Outcome, run_plan};
 use burr_verify::{Accepted, Refusal, accept};
@@ -75,7 +75,7 @@ fn compare_run<B: Blocking>(
     ensures ok { OnOk result (RunsAs accepted.now.judged lines.now) }
     ensures err { IfErr result IsOfDraft }
 {
-    let mut sheet = Kept::new(alloc);
+    let mut sheet = VecSink::new(alloc);
     let Ok(outcome) = run_plan(accepted, &[], &mut sheet) else {
         return Err(SheetFault::Memory);
     };

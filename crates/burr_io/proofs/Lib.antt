@@ -1,3 +1,3 @@
 pub mod Common
-pub mod HandingOn
+pub mod Flushing
 pub mod Putting

@@ -1,3 +1,3 @@
 pub mod Sink
 pub mod Source
-pub mod WholeLines
+pub mod LineWriter

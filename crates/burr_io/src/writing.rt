@@ -69,19 +69,19 @@ impl<W: Write> Sink for Writing<W> {
 /// A sink that keeps the bytes that it takes in memory. It fails only where a request for memory is
 /// refused.
 #[derive(Debug, Drop)]
-pub struct Kept {
+pub struct VecSink {
     bytes: Vec<u8>,
     failed: bool,
 }
 
-impl Kept {
+impl VecSink {
     ghost use Rattle.std.specs.Prelude.{◌≡◌, [], Some};
 
     /// A sink that has taken nothing.
-    pub fn new(alloc: Global) -> Kept
-        ensures { ⟦<Kept as Sink>⟧.taken result ≡ Some [] }
+    pub fn new(alloc: Global) -> VecSink
+        ensures { ⟦<VecSink as Sink>⟧.taken result ≡ Some [] }
     {
-        Kept {
+        VecSink {
             bytes: Vec::new(alloc),
             failed: false,
         }
@@ -89,20 +89,20 @@ impl Kept {
 
     /// The bytes that it has taken.
     pub fn as_bytes(&self) -> &[u8]
-        ensures { ⟦<Kept as Sink>⟧.taken self.now ≡ Some result.now }
+        ensures { ⟦<VecSink as Sink>⟧.taken self.now ≡ Some result.now }
     {
         &self.bytes
     }
 
     /// The bytes that it has taken, handed out.
     pub fn into_bytes(self) -> Vec<u8>
-        ensures { ⟦<Kept as Sink>⟧.taken self ≡ Some result.items }
+        ensures { ⟦<VecSink as Sink>⟧.taken self ≡ Some result.items }
     {
         self.bytes
     }
 }
 
-impl Sink for Kept {
+impl Sink for VecSink {
     ghost use Rattle.std.specs.Prelude.{Some};
 
     ghost taken = { λ kept. Some kept.bytes.items };

@@ -1,12 +1,12 @@
 -- How a dialogue about an accepted plan ends, or breaks off, and how a run is opened.
-use Rattle.std.proofs.Common.{◌≡◌, List, ℕ, [], ◌++◌, refl, sym, subst, inl, inr}
+use Rattle.std.proofs.Common.{◌≡◌, ◌≢◌, List, ℕ, [], ◌++◌, refl, sym, subst, ◌∙◌, inl, inr}
 use Rattle.std.specs.Prelude.{Option, Result, Ok, Err, IfOk, IfErr}
 use Rattle.std.specs.Result.{IsErrAnd}
 use Rattle.std.specs.Io.KnownBytes.{Appends, append_known}
 use Rattle.std.proofs.KnownBytes.{Appends-trans}
 use Rattle.burr_io.specs.Sink.{SinkView, Takes}
 use Rattle.burr_io.specs.Source.{SourceView}
-use Rattle.burr_io.specs.WholeLines.{Lines, lines_view}
+use Rattle.burr_io.specs.LineWriter.{Lines, lines_view}
 use Rattle.burr_io.proofs.Common.Lines.{nothing_held}
 use Rattle.burr_assembly.specs.Rules.Text.{Assembly, IsText}
 use Rattle.burr_container.specs.Views.Containers.{ContainerView}
@@ -20,17 +20,17 @@ use Rattle.burr_judge.specs.Views.DriveLines.{DriveAnswers, AsksNone}
 use Rattle.burr_judge.specs.Views.Dialogues.{EndsDialogue, BreaksDialogue}
 use Rattle.burr_judge.specs.declared.dialogue.LineEnd.TheVariants.{LineFeed}
 use Rattle.burr_judge.specs.declared.status.Status.{Status}
-use Rattle.burr_judge.specs.declared.status.Status.TheVariants.{Done}
+use Rattle.burr_judge.specs.declared.status.Status.TheVariants.{Done, Refused, Waiting}
 use Rattle.burr_judge.specs.declared.stop.Stop.{Stop}
 use Rattle.burr_judge.specs.declared.stop.Stop.TheVariants as halts
 use Rattle.burr_judge.specs.DriveEnds.{LedEnds, LeavesWith, LedBreaks, FailsToBegin, ready_text}
 use Rattle.burr_judge.specs.Faults.{complaint_of, line_of}
 use Rattle.burr_judge.specs.Inputs.{IsRead}
 use Rattle.burr_judge.specs.OpenEnds.{Beginnings, IsOpened}
-use Rattle.burr_judge.specs.PlanEnds.{Ends, Stops}
-use Rattle.burr_judge.specs.StepEnds.{left_by, DialogueBreaks, DialogueEnds}
+use Rattle.burr_judge.specs.PlanEnds.{Ends, JudgedBreaks, Stops}
+use Rattle.burr_judge.specs.StepEnds.{Left, left_by, DialogueBreaks, DialogueEnds, ReadsIfAccepted}
 use Rattle.burr_judge.specs.Stops.{ResultOn, IsFault, StopsBy, IsFaultIn}
-use Rattle.burr_judge.proofs.Common.Results.{comes_stopped, handed}
+use Rattle.burr_judge.proofs.Common.Results.{comes_among, comes_stopped, handed}
 
 -- where nothing is held back, what the sink took is put whole
 pub put_whole : {S : Type 0} (sink : SinkView S) (before after : Lines S) (text : List ℕ) → before.held ≡ [] → after.held ≡ [] → Takes sink before.sink after.sink text
@@ -61,6 +61,24 @@ breaks_by {S} {sink} {before} {after} {AreEnds} {Breaks} {Says} {r} {stop} more 
 pub fault_tells : (line : List ℕ) (Says : List ℕ → Type 0) (stop : Stop) → IsFault line stop → Says line → IsFaultIn Says stop
 fault_tells line Says (halts.Fault fault) is says = record { says = subst Says (sym is) says }
 fault_tells line Says (halts.Refused refused notes) is says = absurd is
+
+-- Sources that are left alone
+
+-- the source is as it was
+pub unread : {S : Type 0} {sink : SinkView S} {before after : S} {AreEnds : Ends} {Breaks : List ℕ → Type 0} {r : Result Status Stop} (left : Left)
+    → left.new ≡ left.old → ResultOn sink before after AreEnds Breaks r → ResultOn sink before after (ReadsIfAccepted left AreEnds) Breaks r
+unread left same = comes_among (λ output status ends. (ends, λ refused. same)) (λ line breaks. breaks)
+
+-- nothing is refused
+pub read_on : {S : Type 0} {sink : SinkView S} {before after : S} {AreEnds : Ends} {Breaks : List ℕ → Type 0} {status : Status} (left : Left)
+    → status ≢ Refused → ResultOn sink before after AreEnds Breaks (Ok status) → ResultOn sink before after (ReadsIfAccepted left AreEnds) Breaks (Ok status)
+read_on left some result = let (output, ends, takes) = result.done in record { done = (output, (ends, λ refused. absurd (some refused)), takes); stops = tt }
+
+-- the plan is accepted, and the command breaks off
+pub broke_off : {S : Type 0} {sink : SinkView S} {before after : S} {AreEnds : Ends} {Others : List ℕ → Type 0} {kept : ContainerView} {a : Assembly} {j : Judged} {r : Result Status Stop} (Broken : Judged → List ℕ → Type 0)
+    → j ≡ judged kept a → IsAccepted j → ((line : List ℕ) → JudgedBreaks kept a Broken line → Others line) → ResultOn sink before after (λ output status. ⊥) (Broken j) r → ResultOn sink before after AreEnds Others r
+broke_off Broken is passes more =
+    comes_among (λ output status none. absurd none) (λ line breaks. more line (record { accepted = subst IsAccepted is passes; breaks = subst (λ x. Broken x line) is breaks }))
 
 -- A stepper
 
@@ -113,3 +131,8 @@ pub opened_is : {Kept : Type 0} (Begins : Beginnings Kept) {text bytes : List �
     → IsText text a → IsRead bytes kept → j ≡ judged kept a → IsAccepted j → Begins j run → IsOpened Begins text bytes run
 opened_is Begins {a = a} {kept = kept} {run = run} is read same accepted begins =
     (a, is, (kept, read, (subst IsAccepted same accepted, subst (λ x. Begins x run) same begins)))
+
+-- a drive is left with another status than that of a refusal
+pub leaves_unrefused : (d : Driving) (status : Status) → LeavesWith d status → status ≢ Refused
+leaves_unrefused d status (inl (asks, same)) = λ refused. let other : Waiting ≡ Refused = sym same ∙ refused in cc
+leaves_unrefused d status (inr (none, same)) = λ refused. let other : Done ≡ Refused = sym same ∙ refused in cc

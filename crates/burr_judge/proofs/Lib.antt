@@ -2,7 +2,7 @@ mod Dialogues
 mod DriveAnswers
 mod DriveLaws
 pub mod Dialogued
-mod KeptSteps
+mod OwnedSteps
 mod MoveWords
 pub mod CommandAnswers
 pub mod CommandLines

@@ -6,7 +6,7 @@ use Rattle.hex.specs.Hex.{encode_lower}
 use Rattle.sha2.specs.Sha256.{sha256}
 use Rattle.burr_text.specs.Words.{text_line}
 use Rattle.burr_io.specs.Sink.{SinkView, HoldsFront}
-use Rattle.burr_io.specs.WholeLines.{Lines}
+use Rattle.burr_io.specs.LineWriter.{Lines}
 use Rattle.burr_assembly.specs.Rules.Text.{Assembly}
 use Rattle.burr_container.specs.Views.Containers.{ContainerView}
 use Rattle.burr_verify.specs.Rules.Accepting.{Judged}
@@ -23,7 +23,7 @@ use Rattle.burr_judge.specs.declared.status.Status.{Status}
 use Rattle.burr_judge.specs.declared.status.Status.TheVariants.{Done, Waiting}
 use Rattle.burr_judge.specs.Faults.{complaint_of, output_failed}
 use Rattle.burr_judge.specs.PlanEnds.{Ends, JudgedEnds, ContainerEnds, InputBytesEnd, TextEnds, BytesBreak, InputBreaks, JudgedBreaks, TextBreaks}
-use Rattle.burr_judge.specs.StepEnds.{Left}
+use Rattle.burr_judge.specs.StepEnds.{Left, ReadsIfAccepted}
 
 -- the line that tells that a run is ready, by the SHA-256 of what it is of: the assembly's text, and
 -- then the bytes of the container
@@ -54,9 +54,9 @@ DriveEnds left text bytes kept a = JudgedEnds kept a (LedEnds left text bytes)
 
 -- the same of an assembly's text and a plan, which comes as a container or as a text
 abbrev pub DriveTextEnds : Left → List ℕ → PlanInput → Ends
-DriveTextEnds left text plan =
-    TextEnds text (λ a. InputBytesEnd plan (λ bytes. ContainerEnds bytes (λ kept.
-    DriveEnds left text bytes kept a)))
+DriveTextEnds left text plan = ReadsIfAccepted left
+    (TextEnds text (λ a. InputBytesEnd plan (λ bytes. ContainerEnds bytes (λ kept.
+    DriveEnds left text bytes kept a))))
 
 -- the streams since this was taken
 abbrev pub since : Option (List ℕ) → Streams → Streams

@@ -11,7 +11,7 @@ use Rattle.burr_runs.specs.Views.BenchText.{Streams}
 use Rattle.burr_judge.specs.Views.Commanding.{StepAnswers, IsAnswerLine}
 use Rattle.burr_judge.specs.Views.Dialogues.{IsDialogue, BreaksDialogue}
 use Rattle.burr_judge.specs.declared.dialogue.LineEnd.TheVariants.{LineFeed}
-use Rattle.burr_judge.specs.declared.status.Status.TheVariants.{Done}
+use Rattle.burr_judge.specs.declared.status.Status.TheVariants.{Done, Refused}
 use Rattle.burr_judge.specs.Faults.{complaint_of}
 use Rattle.burr_judge.specs.PlanEnds.{Ends, JudgedEnds, ContainerEnds, TextEnds, BytesBreak, JudgedBreaks, TextBreaks}
 
@@ -40,10 +40,15 @@ DialogueEnds left j output status =
 abbrev pub StepEnds : Left → ContainerView → Assembly → Ends
 StepEnds left kept a = JudgedEnds kept a (DialogueEnds left)
 
+-- it ends so; if an input is refused, the source is as it was
+abbrev pub ReadsIfAccepted : Left → Ends → Ends
+ReadsIfAccepted left AreEnds output status =
+    AreEnds output status × (status ≡ Refused → left.new ≡ left.old)
+
 -- the same of an assembly's text and a container
 abbrev pub StepTextEnds : Left → List ℕ → List ℕ → Ends
-StepTextEnds left text bytes =
-    TextEnds text (λ a. ContainerEnds bytes (λ kept. StepEnds left kept a))
+StepTextEnds left text bytes = ReadsIfAccepted left
+    (TextEnds text (λ a. ContainerEnds bytes (λ kept. StepEnds left kept a)))
 
 -- what the source of two streams had left
 abbrev pub left_of : Streams → Left

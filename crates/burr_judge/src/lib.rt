@@ -20,11 +20,11 @@ mod status;
 mod stop;
 mod tasks;
 
-pub use commands::{KeptStepper, StepFault};
-pub use dialogue::{Commanded, KEPT, LineEnd, OpenLine, answer_commands, take_command_byte};
+pub use commands::{OwnedStepper, StepFault};
+pub use dialogue::{CommandHandler, LineEnd, MAX_LINE, answer_commands};
 pub use fault::{Fault, put_fault};
-pub use judging::{judge_plan, read_assembly, start_plan};
-pub use laws::a_dialogue_tells_of_its_run;
+pub use judging::{judge_plan, read_assembly};
+pub use laws::{a_dialogue_tells_of_its_run, a_line_has_at_most_8192_bytes};
 pub use plan_input::PlanInput;
 pub use read_text::ReadText;
 pub use refused::Refused;

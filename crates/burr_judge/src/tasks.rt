@@ -6,7 +6,7 @@ ghost use Rattle.hex.specs.Hex.{encode_lower};
 ghost use Rattle.sha2.specs.Sha256.{sha256};
 ghost use Rattle.burr_container.specs.Views.Containers.{HasPlan};
 ghost use Rattle.burr_io.specs.Sink.{Takes};
-ghost use Rattle.burr_io.specs.WholeLines.{lines_view};
+ghost use Rattle.burr_io.specs.LineWriter.{lines_view};
 ghost use Rattle.burr_runs.specs.Views.BenchText.{streams};
 ghost use Rattle.burr_step.specs.Views.Driving.{IsReady};
 ghost use Rattle.burr_step.specs.Views.Stepping.{IsFresh};
@@ -16,7 +16,7 @@ ghost use Rattle.burr_judge.specs.PlanEnds.{CheckEnds, CheckTextEnds, InputEnds,
 ghost use Rattle.burr_judge.specs.StepEnds.{StepTextEnds, StepTextBreaks, left_by};
 ghost use Rattle.burr_judge.specs.Stops.{IsFaultIn, Refuses, ResultOn, done_of};
 
-use crate::commands::KeptStepper;
+use crate::commands::OwnedStepper;
 use crate::dialogue::{LineEnd, answer_commands};
 use crate::judging::{judge_plan, read_assembly, start_plan};
 use crate::plan_input::PlanInput;
@@ -24,9 +24,9 @@ use crate::status::Status;
 use crate::stop::Stop;
 use burr_blocking::{Blocking, RowTables};
 use burr_container::Container;
-use burr_io::{Sink, Source, WholeLines, put_words};
+use burr_io::{LineWriter, Sink, Source, put_words};
 use burr_runs::{Observer, put_accepted, read_answers, run_plan, try_observed};
-use burr_step::{Drive, Halt, KeptDrive, Stepper};
+use burr_step::{Drive, Halt, OwnedDrive, Stepper};
 use sha2::{Digest, Sha256};
 use std::alloc::{AllocError, Global};
 
@@ -163,7 +163,7 @@ pub fn step_text<'y, R: Source, W: Sink, const N: usize>(
     text: &[u8],
     bytes: &[u8],
     source: &mut R,
-    sink: &mut WholeLines<W, N>,
+    sink: &mut LineWriter<W, N>,
 ) -> Result<Status, Stop<'y>>
     requires fresh { sink.old.held ≡ [] }
     ensures { ResultOn (lines_view W.Sink) sink.old sink.new
@@ -190,7 +190,7 @@ pub fn drive_text<'y, R: Source, W: Sink, const N: usize>(
     text: &[u8],
     plan: PlanInput<'_>,
     source: &mut R,
-    sink: &mut WholeLines<W, N>,
+    sink: &mut LineWriter<W, N>,
 ) -> Result<Status, Stop<'y>>
     requires fresh { sink.old.held ≡ [] }
     ensures { ResultOn (lines_view W.Sink) sink.old sink.new
@@ -217,8 +217,8 @@ pub fn open_drive<'y, W: Sink, const N: usize>(
     alloc: Global,
     text: &[u8],
     bytes: &[u8],
-    sink: &mut WholeLines<W, N>,
-) -> Result<KeptDrive, Stop<'y>>
+    sink: &mut LineWriter<W, N>,
+) -> Result<OwnedDrive, Stop<'y>>
     requires fresh { sink.old.held ≡ [] }
     ensures puts { ResultOn (lines_view W.Sink) sink.old sink.new
         (OpenEnds (ReadyEnds text.now bytes.now) text.now bytes.now)
@@ -230,14 +230,14 @@ pub fn open_drive<'y, W: Sink, const N: usize>(
     let container = Container::parse(bytes)?;
     let tables = RowTables::build(alloc, &assembly)?;
     let (accepted, _looks) = judge_plan(&container, &tables)?;
-    let drive = KeptDrive::new(alloc, &accepted)?;
+    let drive = OwnedDrive::new(alloc, &accepted)?;
     put_ready(alloc, text, bytes, sink)?;
     Ok(drive)
 }
 
 /// Opens a stepper of a container's plan, if it is accepted.
 #[inline(never)]
-pub fn open_stepper<'y>(alloc: Global, text: &[u8], bytes: &[u8]) -> Result<KeptStepper, Stop<'y>>
+pub fn open_stepper<'y>(alloc: Global, text: &[u8], bytes: &[u8]) -> Result<OwnedStepper, Stop<'y>>
     ensures opens { IfOk result (IsOpened IsFresh text.now bytes.now) }
     ensures err { IfErr result (Refuses (RefusesToOpen text.now bytes.now)) }
 {
@@ -245,7 +245,7 @@ pub fn open_stepper<'y>(alloc: Global, text: &[u8], bytes: &[u8]) -> Result<Kept
     let container = Container::parse(bytes)?;
     let tables = RowTables::build(alloc, &assembly)?;
     let (accepted, _looks) = judge_plan(&container, &tables)?;
-    Ok(KeptStepper::new(alloc, &accepted)?)
+    Ok(OwnedStepper::new(alloc, &accepted)?)
 }
 
 /// Writes that a run is ready, with the digest of what it is of, and flushes the line.
@@ -253,7 +253,7 @@ fn put_ready<'y, W: Sink, const N: usize>(
     alloc: Global,
     text: &[u8],
     bytes: &[u8],
-    sink: &mut WholeLines<W, N>,
+    sink: &mut LineWriter<W, N>,
 ) -> Result<(), Stop<'y>>
     requires fresh { sink.old.held ≡ [] }
     ensures ok { OnOk result

@@ -5,12 +5,12 @@ use crate::inputs::TEXT;
 use burr_assembly::Assembly;
 use burr_blocking::PlainCells;
 use burr_container::{Container, Plan};
-use burr_io::{Kept, Writing};
+use burr_io::{VecSink, Writing};
 use burr_judge::{
-    Commanded, Fault, KeptStepper, PlanInput, ReadText, Status, StepFault, Stop, check_input,
+    CommandHandler, Fault, OwnedStepper, PlanInput, ReadText, Status, StepFault, Stop, check_input,
     check_text,
 };
-use burr_step::{KeptDrive, StepRefusal, Stepper};
+use burr_step::{OwnedDrive, StepRefusal, Stepper};
 use burr_testing::plans::CUP;
 use burr_verify::accept;
 use std::alloc::{AllocError, Global};
@@ -60,8 +60,8 @@ pub const CALLS: [(&str, Call); 22] = [
     ("read_whole", Call::ReadWhole),
     ("bench_text", Call::RunBench),
     ("Stepper::new", Call::MakeStepper),
-    ("KeptDrive::new", Call::KeepDrive),
-    ("KeptStepper::new", Call::KeepStepper),
+    ("OwnedDrive::new", Call::KeepDrive),
+    ("OwnedStepper::new", Call::KeepStepper),
     ("Stepper::answer", Call::Answer),
     ("command", Call::Command),
     ("check_text", Call::CheckText),
@@ -103,21 +103,21 @@ impl Call {
 // kept.
 
 pub fn text_is_checked(kit: &Kit<'_>) -> Result<bool, AllocError> {
-    let mut said = Kept::new(kit.alloc);
+    let mut said = VecSink::new(kit.alloc);
     let judged = check_text(kit.alloc, CUP.as_bytes(), PlanInput::Text(TEXT), &mut said);
     is_accepted(&judged, &said.into_bytes())
 }
 
 pub fn plan_is_checked(kit: &Kit<'_>) -> Result<bool, AllocError> {
     let cells = PlainCells::new(&kit.assembly);
-    let mut said = Kept::new(kit.alloc);
+    let mut said = VecSink::new(kit.alloc);
     let judged = check_input(kit.alloc, &cells, PlanInput::Text(TEXT), &mut said);
     is_accepted(&judged, &said.into_bytes())
 }
 
 pub fn plans_are_checked(kit: &Kit<'_>) -> Result<bool, AllocError> {
     let read = ReadText::new(kit.alloc, Vec::from_slice(kit.alloc, CUP.as_bytes())?)?;
-    let mut said = Kept::new(kit.alloc);
+    let mut said = VecSink::new(kit.alloc);
     let judged = read.check(kit.alloc, PlanInput::Container(kit.bytes), &mut said);
     is_accepted(&judged, &said.into_bytes())
 }
@@ -190,7 +190,7 @@ pub fn drive_is_kept(kit: &Kit<'_>) -> Result<bool, AllocError> {
     let Ok(accepted) = accept(&kit.container, &cells) else {
         return Ok(false);
     };
-    let drive = KeptDrive::new(kit.alloc, &accepted)?;
+    let drive = OwnedDrive::new(kit.alloc, &accepted)?;
     Ok(drive.moves() == 0)
 }
 
@@ -199,7 +199,7 @@ pub fn stepper_is_kept(kit: &Kit<'_>) -> Result<bool, AllocError> {
     let Ok(accepted) = accept(&kit.container, &cells) else {
         return Ok(false);
     };
-    let mut stepper = KeptStepper::new(kit.alloc, &accepted)?;
+    let mut stepper = OwnedStepper::new(kit.alloc, &accepted)?;
     let mut room = [0u8; 16];
     let mut text = Cursor::new(room.as_mut_slice());
     let taken = stepper.command(b"forward", &mut Writing::new(&mut text));

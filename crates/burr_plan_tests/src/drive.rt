@@ -6,8 +6,8 @@ use crate::stepper::DRIVES;
 use crate::tables::{How, Kind, lines_of, table_of};
 use burr_blocking::RowTables;
 use burr_io::Writing;
-use burr_judge::{Commanded, KeptStepper, StepFault};
-use burr_step::{Drive, Halt, KeptDrive, Stepper};
+use burr_judge::{CommandHandler, OwnedStepper, StepFault};
+use burr_step::{Drive, Halt, OwnedDrive, Stepper};
 use burr_testing::Narrow;
 use burr_verify::{Accepted, accept};
 use std::alloc::Global;
@@ -58,7 +58,7 @@ fn goes_on_where_it_is_kept(rt: HostRuntime) {
 /// Leads both drives to the end, and answers each question by its least number.
 fn assert_kept_drive(rt: &impl Abort, alloc: Global, accepted: &Accepted<'_, '_, RowTables<'_>>) {
     let mut drive = Drive::new(accepted);
-    let mut kept = KeptDrive::new(alloc, accepted).expect(rt, "memory");
+    let mut kept = OwnedDrive::new(alloc, accepted).expect(rt, "memory");
     for _ in 0..1000 {
         let next = drive.next();
         assert!(rt; kept.next() == next && kept.moves() == drive.moves());
@@ -82,7 +82,7 @@ fn assert_kept_drive(rt: &impl Abort, alloc: Global, accepted: &Accepted<'_, '_,
 /// Gives both steppers the same lines.
 fn assert_kept_stepper(rt: &impl Abort, alloc: Global, accepted: &Accepted<'_, '_, RowTables<'_>>) {
     let mut stepper = Stepper::new(alloc, accepted).expect(rt, "memory");
-    let mut kept = KeptStepper::new(alloc, accepted).expect(rt, "memory");
+    let mut kept = OwnedStepper::new(alloc, accepted).expect(rt, "memory");
     for line in [
         "forward", "over", "answer 1", "show", "back 1", "back 9", "no", "show", "quit",
     ] {

@@ -7,7 +7,7 @@ use crate::tables::{How, Kind, bytes_of, lines_of, table_of};
 use crate::want::memory_taken;
 use burr_blocking::RowTables;
 use burr_io::Writing;
-use burr_judge::{Commanded, StepFault};
+use burr_judge::{CommandHandler, StepFault};
 use burr_step::{StepRefusal, Stepper};
 use burr_testing::{MemoryHog, Narrow};
 use burr_verify::accept;

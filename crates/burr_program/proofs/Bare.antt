@@ -3,7 +3,7 @@ use Rattle.std.proofs.Common.{◌≡◌, ℕ, List, [], sym, ap, subst, ◌∙�
 use Rattle.std.specs.Prelude.{Result, Ok, Err}
 use Rattle.burr_io.specs.Sink.{SinkView}
 use Rattle.burr_io.specs.Source.{SourceView}
-use Rattle.burr_io.specs.WholeLines.{Lines, lines_view}
+use Rattle.burr_io.specs.LineWriter.{Lines, lines_view}
 use Rattle.burr_runs.specs.declared.input.BenchFault.TheVariants.{Write}
 use Rattle.burr_runs.specs.Views.BenchText.{streams}
 use Rattle.burr_judge.specs.declared.status.Status.{Status}

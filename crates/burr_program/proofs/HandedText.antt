@@ -4,7 +4,7 @@ use Rattle.std.specs.Prelude.{Option, None, Some, Result, Ok, Err, OnErr, IsTrue
 use Rattle.std.proofs.lemmas.List.{append_assoc}
 use Rattle.burr_io.specs.Sink.{SinkView, Takes, FailsWithin, HoldsFront, Puts}
 use Rattle.burr_io.specs.Source.{SourceView}
-use Rattle.burr_io.specs.WholeLines.{Lines, lines_view}
+use Rattle.burr_io.specs.LineWriter.{Lines, lines_view}
 use Rattle.burr_io.proofs.Common.Lines.{went, failed_late, failed_early}
 use Rattle.burr_runs.specs.declared.text_runs.Outcome.{Outcome}
 use Rattle.burr_runs.specs.declared.input.BenchFault.{BenchFault}

@@ -5,7 +5,7 @@ use Rattle.std.specs.Io.KnownBytes.{Appends}
 use Rattle.std.specs.List.{join_with_byte}
 use Rattle.std.proofs.KnownBytes.{Appends-nil, Appends-trans}
 use Rattle.burr_io.specs.Sink.{SinkView, HoldsFront, Puts}
-use Rattle.burr_io.specs.WholeLines.{Lines, lines_view}
+use Rattle.burr_io.specs.LineWriter.{Lines, lines_view}
 use Rattle.burr_program.specs.Ends.{TakesText, runs_line, runs_lines, took_by}
 use Rattle.burr_program.specs.HowFar.{HasTold, IsReady, Tells}
 use Rattle.burr_program.proofs.HandedText.{front_more, told}

@@ -3,7 +3,7 @@ use Rattle.std.proofs.Common.{◌≡◌, List, ℕ, [], ◌++◌, true, false, a
 use Rattle.std.specs.Prelude.{Result, Ok, Err, IfOk, IfErr, string_bytes}
 use Rattle.burr_io.specs.Sink.{SinkView, Takes}
 use Rattle.burr_io.specs.Source.{SourceView}
-use Rattle.burr_io.specs.WholeLines.{Lines, lines_view}
+use Rattle.burr_io.specs.LineWriter.{Lines, lines_view}
 use Rattle.burr_io.proofs.Common.Lines.{went, failed_late, failed_early}
 use Rattle.burr_runs.specs.Views.BenchText.{streams}
 use Rattle.burr_command.specs.declared.job.Job.{Job}
@@ -19,7 +19,7 @@ use Rattle.burr_judge.specs.Refusals.{refusal_text}
 use Rattle.burr_judge.specs.Statuses.{code_of}
 use Rattle.burr_judge.specs.StepEnds.{Left, left_by}
 use Rattle.burr_program.specs.declared.done.Done.{Done as Finished}
-use Rattle.burr_program.specs.Commands.{CommandResult, CommandStops, JobBreaks, JobDone, JobEnds}
+use Rattle.burr_program.specs.Commands.{CommandResult, CommandStops, JobBreaks, JobDone, JobEnds, JobFails}
 use Rattle.burr_program.specs.Ends.{DoesJob, FailsInText, StopsJob, TakesAny, TakesText, took_by}
 use Rattle.burr_program.specs.Finishing.{EndsBy, FinishesSo, IsStatusOf, OutputFails}
 use Rattle.burr_program.specs.HowFar.{HasTold, TellsHowFar}
@@ -91,20 +91,20 @@ module _ {R S T : Type 0} (source : SourceView R) (first last : R) (sink : SinkV
     ),
   )
 
-  fault_so : (fault : Fault) (status : Status) → old.held ≡ [] → CommandStops (lines_view sink) old mid (JobEnds (left_by source first last) job) (JobBreaks (streams source first last sink old.sink mid.sink) job) (halts.Fault fault)
+  fault_so : (fault : Fault) (status : Status) → old.held ≡ [] → CommandStops (lines_view sink) old mid (JobEnds (left_by source first last) job) (JobFails job) (JobBreaks (streams source first last sink old.sink mid.sink) job) (halts.Fault fault)
       → TellsHowFar errors job before then → new ≡ mid → EndsBy errors then after fault status → Does status
   fault_so fault status none stops (told, far, has) left ends = (told, far, inr (fault, (ap code_of ends.0, told_fault errors before then after told fault status has ends), stopped stops))
     where
-      stopped : CommandStops (lines_view sink) old mid (JobEnds (left_by source first last) job) (JobBreaks (streams source first last sink old.sink mid.sink) job) (halts.Fault fault)
+      stopped : CommandStops (lines_view sink) old mid (JobEnds (left_by source first last) job) (JobFails job) (JobBreaks (streams source first last sink old.sink mid.sink) job) (halts.Fault fault)
           → StopsJob job (streams source first last sink old.sink new.sink) (line_of fault)
       stopped (inl (line, (output, ended, is, within))) =
           inl (line, (output, ended, is, subst (λ (l : Lines S). FailsInText (took_by sink old.sink l.sink) output) (sym left) (failed_early sink old mid output none within)))
-      stopped (inr (inl same)) = inr (inl (ap (λ (l : Lines S). sink.taken l.sink) (left ∙ same)))
+      stopped (inr (inl (same, fails))) = inr (inl (ap (λ (l : Lines S). sink.taken l.sink) (left ∙ same), fails))
       stopped (inr (inr breaks)) = inr (inr (subst (λ (l : Lines S). JobBreaks (streams source first last sink old.sink l.sink) job (line_of fault)) (sym left) breaks))
 
   -- what the program did, from what the job returned and how that was reported
   pub job_done : (done : Result Finished Stop) (r : Result Status Stop) (status : Status) → old.held ≡ []
-      → CommandResult (lines_view sink) old mid (JobDone (left_by source first last) job) (JobEnds (left_by source first last) job) (JobBreaks (streams source first last sink old.sink mid.sink) job) done
+      → CommandResult (lines_view sink) old mid (JobDone (left_by source first last) job) (JobEnds (left_by source first last) job) (JobFails job) (JobBreaks (streams source first last sink old.sink mid.sink) job) done
       → IsStatusOf done r → TellsHowFar errors job before then → FinishesSo sink errors mid new then after r status
       → DoesJob (streams source first last sink old.sink new.sink) (took_by errors before.sink after.sink) (code_of status) job
   job_done (Ok done) r status none result is tells so =

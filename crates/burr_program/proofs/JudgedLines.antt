@@ -11,7 +11,7 @@ use Rattle.burr_text.specs.Words.{IsCutAt}
 use Rattle.burr_text.proofs.Common.Cuts.{cut, lacks, contains_cut}
 use Rattle.burr_io.specs.Sink.{SinkView, Takes}
 use Rattle.burr_judge.specs.declared.commands.StepFault.{StepFault}
-use Rattle.burr_judge.specs.declared.dialogue.TheConstants.{KEPT}
+use Rattle.burr_judge.specs.declared.dialogue.TheConstants.{MAX_LINE}
 use Rattle.burr_judge.specs.declared.status.Status.{Status}
 use Rattle.burr_judge.specs.declared.stop.Stop.{Stop}
 use Rattle.burr_judge.specs.declared.stop.Stop.TheVariants as halts
@@ -43,21 +43,21 @@ unread bytes (Err f) Q none h is = h.0 is
 
 -- No more of a line matters than the bytes that are kept
 
-kept_pair : (separator : ℕ) (line : List ℕ) → IsPair separator (take KEPT line) → IsPair separator line
+kept_pair : (separator : ℕ) (line : List ℕ) → IsPair separator (take MAX_LINE line) → IsPair separator line
 kept_pair separator line (a, p, is) =
-    let within : length line ≤ KEPT = omega (arith, is.short, length-take KEPT line) in
-    subst (IsPair separator) (take_all KEPT line within) (a, p, is)
+    let within : length line ≤ MAX_LINE = omega (arith, is.short, length-take MAX_LINE line) in
+    subst (IsPair separator) (take_all MAX_LINE line within) (a, p, is)
 
-front_pair : (separator : ℕ) (line : List ℕ) → IsPair separator line → IsPair separator (take KEPT line)
+front_pair : (separator : ℕ) (line : List ℕ) → IsPair separator line → IsPair separator (take MAX_LINE line)
 front_pair separator line (a, p, is) =
-    let within : length line ≤ KEPT = omega (arith, is.short) in
-    subst (IsPair separator) (sym (take_all KEPT line within)) (a, p, is)
+    let within : length line ≤ MAX_LINE = omega (arith, is.short) in
+    subst (IsPair separator) (sym (take_all MAX_LINE line within)) (a, p, is)
 
-of_front : (separator : ℕ) (line said : List ℕ) (status : Status) → LineEnds separator (take KEPT line) said status → LineEnds separator line said status
+of_front : (separator : ℕ) (line said : List ℕ) (status : Status) → LineEnds separator (take MAX_LINE line) said status → LineEnds separator line said status
 of_front separator line said status (inl (none, output, is)) = inl (λ pair. none (front_pair separator line pair), output, is)
 of_front separator line said status (inr (pair, comes)) = inr (kept_pair separator line pair, comes)
 
-pub tells_by_front : (tally : Tally) → TellsByFront KEPT AnswersPair AsksNothing tally
+pub tells_by_front : (tally : Tally) → TellsByFront MAX_LINE AnswersPair AsksNothing tally
 tells_by_front tally = record {
   answers = λ line text goes_on new is. record {
     said = is.said;

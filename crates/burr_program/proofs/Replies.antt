@@ -2,17 +2,15 @@
 use Rattle.std.proofs.Common.{◌≡◌, ℕ, List, [], refl, sym, ap, subst, ◌∙◌, inl, inr}
 use Rattle.std.specs.Prelude.{Result, Ok, Err}
 use Rattle.burr_io.specs.Sink.{SinkView, Takes}
-use Rattle.burr_io.specs.WholeLines.{Lines, lines_view}
+use Rattle.burr_io.specs.LineWriter.{Lines, lines_view}
 use Rattle.burr_io.proofs.Common.Lines.{went, failed_late, failed_early}
 use Rattle.burr_judge.specs.declared.status.Status.{Status}
 use Rattle.burr_judge.specs.declared.status.Status.TheVariants.{Done}
 use Rattle.burr_judge.specs.declared.stop.Stop.{Stop}
 use Rattle.burr_judge.specs.declared.stop.Stop.TheVariants as halts
-use Rattle.burr_judge.specs.Faults.{line_of}
 use Rattle.burr_judge.specs.Statuses.{code_of}
-use Rattle.burr_judge.specs.Stops.{IsFault}
 use Rattle.burr_program.specs.Ends.{FailsInText, Replies, TakesAny, took_by}
-use Rattle.burr_program.specs.Finishing.{AnswerStops, Answers, Finishes, FinishesSo}
+use Rattle.burr_program.specs.Finishing.{Answers, Finishes, FinishesSo}
 use Rattle.burr_program.proofs.HowFar.{tells_nothing}
 
 module _ {S T : Type 0} (sink : SinkView S) (old mid new : Lines S) (errors : SinkView T) (before after : Lines T) where
@@ -25,19 +23,9 @@ module _ {S T : Type 0} (sink : SinkView S) (old mid new : Lines S) (errors : Si
       done (fine, takes) (inl (same, handed, kept)) =
           inl (text, given, (refl, fine), went sink old mid new text none takes handed, ap code_of same, subst (λ (l : Lines T). TakesAny (took_by errors before.sink l.sink) []) (sym kept) (tells_nothing errors before still).takes)
       done (fine, takes) (inr (fails, (fault, line, failed, ends))) =
-          inr (fault, (ap code_of ends.0, ends.1.takes), inl (line, (text, given, (refl, fine), failed_late sink old mid new text none takes fails)))
-  reply_done text (Err (halts.Fault fault)) status none still answers finishes = stopped answers.stops finishes.so
-    where
-      stopped : AnswerStops (lines_view sink) old mid text (halts.Fault fault) → FinishesSo sink errors mid new before after (Err (halts.Fault fault)) status → Replies text (took_by sink old.sink new.sink) (took_by errors before.sink after.sink) (code_of status)
-      stopped (inl (line, fails)) (left, ends) =
-          inr (fault, (ap code_of ends.0, ends.1.takes), inl (line, (text, Done, (refl, refl), subst (λ (l : Lines S). FailsInText (took_by sink old.sink l.sink) text) (sym left) (failed_early sink old mid text none fails))))
-      stopped (inr (same, kept)) (left, ends) = inr (fault, (ap code_of ends.0, ends.1.takes), inr (same, ap (λ (l : Lines S). sink.taken l.sink) (left ∙ kept)))
+          inr (fault, (ap code_of ends.0, ends.1.takes), line, (text, given, (refl, fine), failed_late sink old mid new text none takes fails))
+  reply_done text (Err (halts.Fault fault)) status none still answers finishes =
+      let (line, fails) = answers.stops in
+      let (left, ends) = finishes.so in
+      inr (fault, (ap code_of ends.0, ends.1.takes), line, (text, Done, (refl, refl), subst (λ (l : Lines S). FailsInText (took_by sink old.sink l.sink) text) (sym left) (failed_early sink old mid text none fails)))
   reply_done text (Err (halts.Refused refused notes)) status none still answers finishes = absurd answers.stops
-
--- a fault, before anything is done
-pub fault_done : {S T : Type 0} (sink : SinkView S) (old new : Lines S) (errors : SinkView T) (before after : Lines T) (line : List ℕ) (stop : Stop) (status : Status) → IsFault line stop
-    → Finishes sink errors old new before after (Err stop) status → Replies line (took_by sink old.sink new.sink) (took_by errors before.sink after.sink) (code_of status)
-fault_done {S} sink old new errors before after line (halts.Fault fault) status is finishes =
-    let (left, ends) = finishes.so in
-    inr (fault, (ap code_of ends.0, ends.1.takes), inr (is, ap (λ (l : Lines S). sink.taken l.sink) left))
-fault_done sink old new errors before after line (halts.Refused refused notes) status is finishes = absurd is

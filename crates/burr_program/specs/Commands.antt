@@ -1,5 +1,5 @@
 -- How each command ends: what it prints, which files it reads and writes, and why it stops.
-use Rattle.std.specs.Prelude.{◌≡◌, ◌⊎◌, ◌≤◌, ℕ, List, [], ⊤, Bool, true, false, Option, None, Some, Result, IfOk, IfErr, IsTrue, string_bytes}
+use Rattle.std.specs.Prelude.{◌≡◌, ◌⊎◌, ◌≤◌, ◌∷◌, ℕ, List, [], ⊤, Bool, true, false, Option, None, Some, Result, IfOk, IfErr, IsTrue, codes, string_bytes}
 use Rattle.burr_io.specs.Sink.{SinkView, Takes}
 use Rattle.burr_asm.specs.Rules.Assembling.{IsAssembled}
 use Rattle.burr_container.specs.Rules.Plans.{Plan, upgraded}
@@ -31,7 +31,8 @@ use Rattle.burr_judge.specs.Statuses.{code_of}
 use Rattle.burr_judge.specs.StepEnds.{Left, StepTextEnds, StepTextBreaks}
 use Rattle.burr_judge.specs.Stops.{RefusesBytes}
 use Rattle.burr_program.specs.CellEnds.{CellEnds}
-use Rattle.burr_program.specs.ExplainEnds.{ExplainEnds}
+use Rattle.burr_program.specs.ExplainEnds.{CannotExplain, ExplainEnds}
+use Rattle.burr_program.specs.FileFaults.{CannotRead, CannotRewrite, Lines, NoMemory}
 use Rattle.burr_program.specs.ListEnds.{JudgeCommand, JudgeCommandBreaks}
 use Rattle.burr_program.specs.MakingEnds.{MakesPlanOf}
 use Rattle.burr_program.specs.NotedEnds.{NotedEnds, TracedEnds}
@@ -45,46 +46,50 @@ use Rattle.burr_program.specs.declared.files.WrittenFile.{WrittenFile}
 abbrev pub Dones : Type 1
 Dones = List ℕ → Finished → Type 0
 
--- Why a command stops by a fault: the sink failed in what is printed; or it was left alone; or the
--- command broke off.
-abbrev pub StopsOnFiles : {S : Type 0} → SinkView S → S → S → Ends → (List ℕ → Type 0) → List ℕ
-    → Type 0
-StopsOnFiles sink before after AreEnds Breaks line =
+-- Why a command stops by a fault: the sink failed in what is printed; or it was left alone, and a file
+-- failed, or memory; or the command broke off.
+abbrev pub StopsOnFiles : {S : Type 0} → SinkView S → S → S → Ends → Lines → Lines → List ℕ → Type 0
+StopsOnFiles sink before after AreEnds Fails Breaks line =
     ((line ≡ output_failed) × PutsFrontOfEnd sink before after AreEnds)
-    ⊎ (after ≡ before) ⊎ Breaks line
+    ⊎ ((after ≡ before) × Fails line) ⊎ Breaks line
 
 -- why a command stops: a refusal is one of its ends, and the sink was left alone; or by a fault
-abbrev pub CommandStops : {S : Type 0} → SinkView S → S → S → Ends → (List ℕ → Type 0) → Stop
-    → Type 0
-CommandStops sink before after AreEnds Breaks (stops.Refused refused notes) =
+abbrev pub CommandStops : {S : Type 0} → SinkView S → S → S → Ends → Lines → Lines → Stop → Type 0
+CommandStops sink before after AreEnds Fails Breaks (stops.Refused refused notes) =
     AreEnds (refusal_text refused notes) Refused × (after ≡ before)
-CommandStops sink before after AreEnds Breaks (stops.Fault fault) =
-    StopsOnFiles sink before after AreEnds Breaks (line_of fault)
+CommandStops sink before after AreEnds Fails Breaks (stops.Fault fault) =
+    StopsOnFiles sink before after AreEnds Fails Breaks (line_of fault)
 
 -- a command is done, and the sink took what it prints; or it stops
 pub record CommandResult {S : Type 0} (sink : SinkView S) (before after : S) (AreDone : Dones)
-    (AreEnds : Ends) (Breaks : List ℕ → Type 0) (r : Result Finished Stop) : Type 0 where
+    (AreEnds : Ends) (Fails Breaks : Lines) (r : Result Finished Stop) : Type 0 where
   pub done : IfOk r (λ done. (output : List ℕ) × AreDone output done
       × Takes sink before after output)
-  pub stops : IfErr r (CommandStops sink before after AreEnds Breaks)
+  pub stops : IfErr r (CommandStops sink before after AreEnds Fails Breaks)
 
--- the same of a call of a command, which reads files and returns the status alone
+-- the same of a call of a command, which reads files and returns the status alone; nothing is said of a fault
+abbrev pub RefusesAlone : {S : Type 0} → SinkView S → S → S → Ends → Stop → Type 0
+RefusesAlone sink before after AreEnds (stops.Refused refused notes) =
+    AreEnds (refusal_text refused notes) Refused × (after ≡ before)
+RefusesAlone sink before after AreEnds (stops.Fault fault) = ⊤
+
 pub record FileResult {S : Type 0} (sink : SinkView S) (before after : S) (AreEnds : Ends)
     (r : Result Status Stop) : Type 0 where
   pub done : IfOk r (λ status. (output : List ℕ) × AreEnds output status
       × Takes sink before after output)
-  pub stops : IfErr r (CommandStops sink before after AreEnds never)
+  pub stops : IfErr r (RefusesAlone sink before after AreEnds)
 
--- a refusal is one of the ends
-abbrev pub IsRefusalAmong : Ends → Stop → Type 0
-IsRefusalAmong AreEnds (stops.Refused refused notes) =
+-- a refusal is one of the ends, or a file failed, or memory
+abbrev pub StopsSilently : Ends → Lines → Stop → Type 0
+StopsSilently AreEnds Fails (stops.Refused refused notes) =
     AreEnds (refusal_text refused notes) Refused
-IsRefusalAmong AreEnds (stops.Fault fault) = ⊤
+StopsSilently AreEnds Fails (stops.Fault fault) = Fails (line_of fault)
 
 -- a command that prints nothing is done, or stops
-pub record SilentResult (AreDone : Dones) (AreEnds : Ends) (r : Result Finished Stop) : Type 0 where
+pub record SilentResult (AreDone : Dones) (AreEnds : Ends) (Fails : Lines)
+    (r : Result Finished Stop) : Type 0 where
   pub done : IfOk r (AreDone [])
-  pub stops : IfErr r (IsRefusalAmong AreEnds)
+  pub stops : IfErr r (StopsSilently AreEnds Fails)
 
 -- done, refused, trapped or stopped; or the run waits
 abbrev pub IsDone : ℕ → Type 0
@@ -99,7 +104,7 @@ pub record PutsNotes {S : Type 0} (sink : SinkView S) (before after : S)
     (r : Result Status Stop) : Type 0 where
   pub done : IfOk r (λ status. (output : List ℕ) × IsDone (code_of status)
       × Takes sink before after output)
-  pub stops : IfErr r (CommandStops sink before after DoneEnds never)
+  pub stops : IfErr r (CommandStops sink before after DoneEnds NoMemory never)
 
 -- How each command ends, for some bytes of the files that it reads
 
@@ -322,8 +327,30 @@ JobEnds left (jobs.Frames assembly text out) = DoneEnds
 JobEnds left (jobs.PlanSheet assembly sheet out) = PlanSheetCommand
 JobEnds left (jobs.Explain line) = ExplainEnds (string_bytes line)
 
+-- why it stops before it prints anything: a fault names a word of the job
+abbrev pub JobFails : Job → Lines
+JobFails (jobs.Cells assembly) = CannotRead (assembly.now ∷ [])
+JobFails (jobs.Assemble text out) =
+    CannotRewrite (text.now ∷ []) (codes "TEXT" ∷ []) out.now
+JobFails (jobs.List plan places) = CannotRead (plan.now ∷ [])
+JobFails (jobs.Upgrade plan out) =
+    CannotRewrite (plan.now ∷ []) (codes "PLAN" ∷ []) out.now
+JobFails (jobs.Check assembly plan) = CannotRead (assembly.now ∷ plan.now ∷ [])
+JobFails (jobs.Judge null) = NoMemory
+JobFails (jobs.Run assembly plan) = CannotRead (assembly.now ∷ plan.now ∷ codes "-" ∷ [])
+JobFails (jobs.Try assembly plan) = CannotRead (assembly.now ∷ plan.now ∷ codes "-" ∷ [])
+JobFails (jobs.Step assembly plan) = CannotRead (assembly.now ∷ plan.now ∷ [])
+JobFails (jobs.Drive assembly plan) = CannotRead (assembly.now ∷ plan.now ∷ [])
+JobFails (jobs.Why assembly text) = CannotRead (assembly.now ∷ text.now ∷ [])
+JobFails (jobs.Trace assembly text) = CannotRead (assembly.now ∷ text.now ∷ codes "-" ∷ [])
+JobFails (jobs.Frames assembly text out) =
+    CannotRewrite (assembly.now ∷ text.now ∷ []) (codes "ASSEMBLY" ∷ codes "TEXT" ∷ []) out.now
+JobFails (jobs.PlanSheet assembly sheet out) =
+    CannotRewrite (assembly.now ∷ sheet.now ∷ []) (codes "ASSEMBLY" ∷ codes "SHEET" ∷ []) out.now
+JobFails (jobs.Explain line) = CannotExplain (string_bytes line)
+
 -- where it breaks off: dialogues alone
-abbrev pub JobBreaks : Streams → Job → List ℕ → Type 0
+abbrev pub JobBreaks : Streams → Job → Lines
 JobBreaks s (jobs.Judge false) = JudgeCommandBreaks LineFeed 9 s
 JobBreaks s (jobs.Judge true) = JudgeCommandBreaks SecondNul 0 s
 JobBreaks s (jobs.Step assembly plan) = StepCommandBreaks s

@@ -3,6 +3,7 @@ use Rattle.std.specs.Prelude.{◌≡◌, ◌⊎◌, ◌*◌, ℕ, zero, suc, Lis
 use Rattle.std.specs.Io.KnownBytes.{Appends}
 use Rattle.burr_text.specs.Words.{text_line}
 use Rattle.burr_io.specs.Sink.{HoldsFront, SinkView}
+use Rattle.burr_command.specs.Asking.{IsAsked}
 use Rattle.burr_command.specs.declared.job.Job.{Job}
 use Rattle.burr_command.specs.declared.job.Job.TheVariants as jobs
 use Rattle.burr_runs.specs.declared.text_runs.Outcome.{Outcome}
@@ -14,10 +15,11 @@ use Rattle.burr_runs.specs.Views.BenchText.{Streams, Succeeds, Fails}
 use Rattle.burr_judge.specs.declared.fault.Fault.{Fault}
 use Rattle.burr_judge.specs.declared.status.Status.{Status}
 use Rattle.burr_judge.specs.declared.status.Status.TheVariants.{Done, CommandLine}
+use Rattle.burr_judge.specs.declared.status.Status.TheVariants.{Memory as OutOfMemory}
 use Rattle.burr_judge.specs.Faults.{complaint_of, status_of_complaint, line_of, status_of_fault, output_failed}
 use Rattle.burr_judge.specs.Statuses.{code_of, status_of}
 use Rattle.burr_judge.specs.PlanEnds.{Ends}
-use Rattle.burr_program.specs.Commands.{JobEnds, JobBreaks}
+use Rattle.burr_program.specs.Commands.{JobEnds, JobFails, JobBreaks}
 use Rattle.burr_judge.specs.StepEnds.{left_of}
 
 -- What a sink had taken before and after, and whether it has failed.
@@ -55,8 +57,8 @@ TakesAny t text = TakesText t text × (text ≡ [] → TakesNothing t)
 
 -- The run on the streams had an outcome, which the status tells, and standard error took nothing.
 abbrev pub HasOutcome : Streams → Taken → ℕ → Outcome → Type 0
-HasOutcome streams complaints status outcome =
-    Succeeds streams outcome × (status ≡ code_of (status_of outcome)) × TakesNothing complaints
+HasOutcome streams errors status outcome =
+    Succeeds streams outcome × (status ≡ code_of (status_of outcome)) × TakesNothing errors
 
 -- The sink failed in the output of the whole input.
 abbrev pub FailsInOutput : Streams → Type 0
@@ -74,15 +76,15 @@ HasNoOutcome s Write = FailsInOutput s
 
 -- The run on the streams had a fault, which the status and standard error tell.
 abbrev pub HasFault : Streams → Taken → ℕ → BenchFault → Type 0
-HasFault streams complaints status fault =
+HasFault streams errors status fault =
     HasNoOutcome streams fault × (status ≡ code_of (status_of_complaint fault))
-    × TakesText complaints (complaint_of fault)
+    × TakesText errors (complaint_of fault)
 
 -- one of the two
 abbrev pub IsRun : Streams → Taken → ℕ → Type 0
-IsRun streams complaints status =
-    ((outcome : Outcome) × HasOutcome streams complaints status outcome)
-    ⊎ ((fault : BenchFault) × HasFault streams complaints status fault)
+IsRun streams errors status =
+    ((outcome : Outcome) × HasOutcome streams errors status outcome)
+    ⊎ ((fault : BenchFault) × HasFault streams errors status fault)
 
 -- With words
 
@@ -102,14 +104,14 @@ IsHowFar job told = told ≡ []
 
 -- A fault is told after a text: its line, with the status that goes with it.
 abbrev pub TellsFault : Taken → List ℕ → ℕ → Fault → Type 0
-TellsFault complaints told status fault =
-    (status ≡ code_of (status_of_fault fault)) × TakesText complaints (told ++ line_of fault)
+TellsFault errors told status fault =
+    (status ≡ code_of (status_of_fault fault)) × TakesText errors (told ++ line_of fault)
 
 -- standard output took what is printed where it ends so, with this status, and a text is told
 abbrev pub Prints : Ends → Taken → Taken → List ℕ → ℕ → Type 0
-Prints AreEnds sink complaints told status =
+Prints AreEnds sink errors told status =
     (output : List ℕ) × (ended : Status) × AreEnds output ended
-    × Appends sink.old sink.new output × (status ≡ code_of ended) × TakesAny complaints told
+    × Appends sink.old sink.new output × (status ≡ code_of ended) × TakesAny errors told
 
 -- standard output failed in what is printed where it ends so
 abbrev pub FailsToPrint : Ends → Taken → Type 0
@@ -120,34 +122,44 @@ FailsToPrint AreEnds sink =
 abbrev pub sink_of : Streams → Taken
 sink_of s = took s.taken_old s.taken_new s.write_failed
 
--- what standard output took where a job stops with a fault's line: a front of what it prints, or
--- nothing, or answers to commands before it broke off
+-- what standard output took if a job stops with a fault's line: a front of what it prints; or nothing, and
+-- the line names a word of the job; or answers to commands before it broke off
 abbrev pub StopsJob : Job → Streams → List ℕ → Type 0
 StopsJob job s line =
     ((line ≡ output_failed) × FailsToPrint (JobEnds (left_of s) job) (sink_of s))
-    ⊎ TakesNothing (sink_of s) ⊎ JobBreaks s job line
+    ⊎ (TakesNothing (sink_of s) × JobFails job line) ⊎ JobBreaks s job line
 
 -- a job was done, or stopped with a fault, which is told; and before that, how far it was
 abbrev pub DoesJob : Streams → Taken → ℕ → Job → Type 0
-DoesJob s complaints status job =
+DoesJob s errors status job =
     (told : List ℕ) × IsHowFar job told
-    × (Prints (JobEnds (left_of s) job) (sink_of s) complaints told status
-    ⊎ ((fault : Fault) × TellsFault complaints told status fault × StopsJob job s (line_of fault)))
+    × (Prints (JobEnds (left_of s) job) (sink_of s) errors told status
+    ⊎ ((fault : Fault) × TellsFault errors told status fault × StopsJob job s (line_of fault)))
 
 -- a text, with status 0
 abbrev pub IsText : List ℕ → Ends
 IsText text output status = (output ≡ text) × (status ≡ Done)
 
--- the text of a reply was printed, or standard output failed in it; or the text is that of a fault
+-- the text of a reply was printed, or standard output failed in it
 abbrev pub Replies : List ℕ → Taken → Taken → ℕ → Type 0
-Replies text sink complaints status =
-    Prints (IsText text) sink complaints [] status
-    ⊎ ((fault : Fault) × TellsFault complaints [] status fault
-    × (((line_of fault ≡ output_failed) × FailsToPrint (IsText text) sink)
-    ⊎ ((line_of fault ≡ text) × TakesNothing sink)))
+Replies text sink errors status =
+    Prints (IsText text) sink errors [] status
+    ⊎ ((fault : Fault) × TellsFault errors [] status fault
+    × (line_of fault ≡ output_failed) × FailsToPrint (IsText text) sink)
 
--- The words were answered: by a reply, or by a job that was done.
-abbrev pub IsEnd : Streams → Taken → ℕ → Type 0
-IsEnd s complaints status =
-    ((text : List ℕ) × Replies text (sink_of s) complaints status)
-    ⊎ ((job : Job) × DoesJob s complaints status job)
+-- standard error took a text, or failed in it, with this status, and standard output took nothing
+abbrev pub Complains : List ℕ → Status → Taken → Taken → ℕ → Type 0
+Complains text ended sink errors status =
+    (status ≡ code_of ended) × TakesText errors text × TakesNothing sink
+
+-- a reply: help or the version was printed, or what is wrong with the words
+abbrev pub IsReplied : List ℕ → Taken → Taken → ℕ → Type 0
+IsReplied text sink errors status =
+    Replies text sink errors status ⊎ Complains text CommandLine sink errors status
+
+-- The words were answered: by a reply, or by the job that they ask for; or memory was out.
+abbrev pub IsEnd : List (List ℕ) → Streams → Taken → ℕ → Type 0
+IsEnd words s errors status =
+    ((text : List ℕ) × IsReplied text (sink_of s) errors status)
+    ⊎ ((job : Job) × IsAsked words job × DoesJob s errors status job)
+    ⊎ Complains (codes "no memory\n") OutOfMemory (sink_of s) errors status

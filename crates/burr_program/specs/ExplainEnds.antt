@@ -1,10 +1,10 @@
 -- How `explain` ends: what is printed of a word or a line, and when nothing is explained.
-use Rattle.std.specs.Prelude.{◌≡◌, ◌⊎◌, ℕ, List, Contains}
+use Rattle.std.specs.Prelude.{◌≡◌, ℕ, List, Contains}
 use Rattle.burr_explain.specs.declared.explanation.Explanation.{Explanation}
 use Rattle.burr_explain.specs.Asked.{IsKeyOf, IsAskedBy, known_keys}
 use Rattle.burr_explain.specs.Layout.{explanation_text}
 use Rattle.burr_judge.specs.declared.status.Status.TheVariants.{Done}
-use Rattle.burr_judge.specs.Faults.{not_explained, output_failed}
+use Rattle.burr_judge.specs.Faults.{not_explained}
 use Rattle.burr_judge.specs.PlanEnds.{Ends}
 
 -- the line's key is one of those that are explained, and it is this explanation's
@@ -22,7 +22,6 @@ ExplainEnds line output status =
     (status ≡ Done)
     × ((e : Explanation) × IsExplainedBy line e × (output ≡ explanation_text e))
 
--- what is told where no explanation comes: nothing is explained under the line, or the sink failed
-abbrev pub FailsToExplain : List ℕ → List ℕ → Type 0
-FailsToExplain line told =
-    (IsUnexplained line × (told ≡ not_explained line)) ⊎ (told ≡ output_failed)
+-- nothing is explained under the line, as this line reports
+abbrev pub CannotExplain : List ℕ → List ℕ → Type 0
+CannotExplain line told = IsUnexplained line × (told ≡ not_explained line)

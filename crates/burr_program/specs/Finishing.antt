@@ -1,7 +1,7 @@
 -- How the program reports what a command returned.
 use Rattle.std.specs.Prelude.{◌≡◌, ◌≢◌, ◌⊎◌, ℕ, List, [], Result, Ok, Err, IfOk, IfErr}
 use Rattle.burr_io.specs.Sink.{SinkView, Takes, FailsWithin}
-use Rattle.burr_io.specs.WholeLines.{Lines}
+use Rattle.burr_io.specs.LineWriter.{Lines}
 use Rattle.burr_runs.specs.declared.text_runs.Outcome.{Outcome}
 use Rattle.burr_runs.specs.declared.input.BenchFault.{BenchFault}
 use Rattle.burr_runs.specs.declared.input.BenchFault.TheVariants.{Write}
@@ -54,11 +54,10 @@ abbrev pub IsStatusOf : Result Finished Stop → Result Status Stop → Type 0
 IsStatusOf (Ok done) r = r ≡ Ok done.status
 IsStatusOf (Err stop) r = r ≡ Err stop
 
--- a reply: its text was written; or it is a fault, whose text it is, and nothing was written
+-- a reply's text was written, or the sink failed in it
 abbrev pub AnswerStops : {S : Type 0} → SinkView S → S → S → List ℕ → Stop → Type 0
 AnswerStops sink old new text (stops.Fault fault) =
-    ((line_of fault ≡ output_failed) × FailsWithin sink old new text)
-    ⊎ ((line_of fault ≡ text) × (new ≡ old))
+    (line_of fault ≡ output_failed) × FailsWithin sink old new text
 AnswerStops sink old new text (stops.Refused refused notes) = ⊥
 
 pub record Answers {S : Type 0} (sink : SinkView S) (old new : S) (text : List ℕ)

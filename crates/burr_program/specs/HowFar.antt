@@ -2,7 +2,7 @@
 -- fault may follow, took of it.
 use Rattle.std.specs.Prelude.{◌≡◌, ◌⊎◌, ℕ, List, [], IsTrue}
 use Rattle.burr_io.specs.Sink.{SinkView}
-use Rattle.burr_io.specs.WholeLines.{Lines}
+use Rattle.burr_io.specs.LineWriter.{Lines}
 use Rattle.burr_command.specs.declared.job.Job.{Job}
 use Rattle.burr_program.specs.Ends.{IsHowFar, TakesAny, TakesText, runs_lines, took_by}
 

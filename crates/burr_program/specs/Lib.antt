@@ -3,6 +3,7 @@ pub mod Commands
 pub mod Ends
 pub mod ExplainEnds
 pub mod ExplainLaws
+pub mod FileFaults
 pub mod Finishing
 pub mod HowFar
 pub mod Judging

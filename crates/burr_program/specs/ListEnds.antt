@@ -4,7 +4,7 @@ use Rattle.std.specs.Str.{IsUtf8}
 use Rattle.burr_text.specs.Words.{IsCutAt}
 use Rattle.burr_runs.specs.declared.input.BenchFault.{BenchFault}
 use Rattle.burr_runs.specs.Views.BenchText.{Streams}
-use Rattle.burr_judge.specs.declared.dialogue.TheConstants.{KEPT}
+use Rattle.burr_judge.specs.declared.dialogue.TheConstants.{MAX_LINE}
 use Rattle.burr_judge.specs.declared.plan_input.PlanInput.{PlanInput}
 use Rattle.burr_judge.specs.declared.dialogue.LineEnd.{LineEnd}
 use Rattle.burr_judge.specs.declared.status.Status.{Status}
@@ -24,7 +24,7 @@ pub record ArePair (separator : ℕ) (line assembly plan : List ℕ) : Type 0 wh
   pub plan_named : plan ≢ []
   pub assembly_is_text : IsUtf8 assembly
   pub plan_is_text : IsUtf8 plan
-  pub short : length line < KEPT
+  pub short : length line < MAX_LINE
 
 -- the line names an assembly and a plan
 abbrev pub IsPair : ℕ → List ℕ → Type 0

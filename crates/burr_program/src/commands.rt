@@ -16,10 +16,10 @@ mod upgrade;
 mod why;
 
 ghost use Rattle.std.specs.Prelude.{◌≡◌, []};
-ghost use Rattle.burr_io.specs.WholeLines.{lines_view};
+ghost use Rattle.burr_io.specs.LineWriter.{lines_view};
 ghost use Rattle.burr_runs.specs.Views.BenchText.{streams};
 ghost use Rattle.burr_judge.specs.StepEnds.{left_by};
-ghost use Rattle.burr_program.specs.Commands.{CommandResult, JobBreaks, JobDone, JobEnds};
+ghost use Rattle.burr_program.specs.Commands.{CommandResult, JobBreaks, JobDone, JobEnds, JobFails};
 ghost use Rattle.burr_program.specs.HowFar.{TellsHowFar};
 
 use crate::done::Done;
@@ -43,7 +43,7 @@ pub fn do_job<
     requires told { io.old.errors.held ≡ [] }
     ensures ends { CommandResult (lines_view W.Sink) io.old.sink io.new.sink
         (JobDone (left_by R.Source io.old.source io.new.source) job.entry.now)
-        (JobEnds (left_by R.Source io.old.source io.new.source) job.entry.now)
+        (JobEnds (left_by R.Source io.old.source io.new.source) job.entry.now) (JobFails job.entry.now)
         (JobBreaks (streams R.Source io.old.source io.new.source W.Sink io.old.sink.sink
         io.new.sink.sink) job.entry.now) result }
     ensures told { TellsHowFar E.Sink job.entry.now io.old.errors io.new.errors }

@@ -1,6 +1,8 @@
 //! Files that are read and written whole.
 
-ghost use Rattle.std.specs.Prelude.{◌≡◌, IfOk};
+ghost use Rattle.std.specs.Prelude.{◌≡◌, ◌⊎◌, IfErr, IfOk, map};
+ghost use Rattle.burr_judge.specs.Faults.{line_of};
+ghost use Rattle.burr_program.specs.FileFaults.{IsInput, NoMemory, Unread, Unwritten};
 
 use burr_io::Reading;
 use burr_judge::Fault;
@@ -61,9 +63,13 @@ pub fn read_file<'a, F: Files + AllocGlobal>(
     files: &F,
     name: &'a str,
 ) -> Result<SourceFile<'a>, Fault<'a>>
-    ensures { IfOk result (λ file. file.name.now ≡ name.entry.now) }
+    ensures ok { IfOk result (λ file. file.name.now ≡ name.entry.now) }
+    ensures err { IfErr result (λ fault. Unread name.entry.now (line_of fault)) }
 {
-    let file = fs::open(files, name).map_err(|error| fault_of(error, Fault::Read(name)))?;
+    let file = match fs::open(files, name) {
+        Ok(file) => file,
+        Err(error) => return Err(fault_of(error, Fault::Read(name))),
+    };
     match read_whole(files.alloc(), &mut Reading::new(file)) {
         Ok(bytes) => Ok(SourceFile { name, bytes }),
         Err(BenchFault::Memory) => Err(Fault::Memory),
@@ -71,7 +77,7 @@ pub fn read_file<'a, F: Files + AllocGlobal>(
     }
 }
 
-/// Checks that a file to be written is none of the inputs, each of which has its word of the usage.
+/// Checks that a file to be written is not one of the inputs, which come with their words of the usage.
 ///
 /// # Errors
 /// `OutIsInput` with the first input that is the same file.
@@ -79,7 +85,10 @@ pub fn check_out_not_input<'a, F: Files>(
     files: &F,
     inputs: &[(&'static str, &str)],
     out: &'a str,
-) -> Result<(), Fault<'a>> {
+) -> Result<(), Fault<'a>>
+    ensures { IfErr result (λ fault.
+        IsInput (map (λ input. input.0.now) inputs.now) out.entry.now (line_of fault)) }
+{
     for (word, name) in inputs {
         if is_same_file(files, name, out) {
             return Err(Fault::OutIsInput(word, out));
@@ -101,6 +110,7 @@ pub fn write_file<'a, F: Files + AllocGlobal>(
 ) -> Result<WrittenFile<'a>, Fault<'a>>
     ensures name { IfOk result (λ file. file.name.now ≡ name.entry.now) }
     ensures bytes { IfOk result (λ file. file.bytes.items ≡ bytes.items) }
+    ensures err { IfErr result (λ fault. Unwritten name.entry.now (line_of fault)) }
 {
     let written = match fs::metadata(files, name) {
         Ok(old) if old.is_file() => replace(files, name, old.permissions(), &bytes),
@@ -185,7 +195,9 @@ fn new_beside<F: Files + AllocGlobal>(files: &F, path: &str) -> io::Result<(Stri
 }
 
 /// Returns `Memory` if the error says that, else this fault.
-fn fault_of<'a>(error: io::Error, fault: Fault<'a>) -> Fault<'a> {
+fn fault_of<'a>(error: io::Error, fault: Fault<'a>) -> Fault<'a>
+    ensures { (result ≡ fault.entry) ⊎ NoMemory (line_of result) }
+{
     match error.kind() {
         ErrorKind::OutOfMemory => Fault::Memory,
         _ => fault,

@@ -9,6 +9,7 @@ ghost use Rattle.burr_verify.specs.Rules.Accepting.{judged, IsAccepted};
 ghost use Rattle.burr_judge.specs.Inputs.{RefusesPlanBytes};
 ghost use Rattle.burr_judge.specs.PlanEnds.{TryEnds};
 ghost use Rattle.burr_judge.specs.Stops.{Noted, Refuses, RefusesText};
+ghost use Rattle.burr_program.specs.FileFaults.{AnyText};
 ghost use Rattle.burr_judge.specs.declared.status.Status.TheVariants as statuses;
 
 use crate::files::SourceFile;
@@ -17,7 +18,7 @@ use burr_assembly::Assembly;
 use burr_blocking::Blocking;
 use burr_container::Container;
 use burr_explain::explanation_of;
-use burr_io::Kept;
+use burr_io::VecSink;
 use burr_judge::{Refused, Status, Stop, judge_plan, read_assembly, try_plan};
 use burr_lines::Unframed;
 use burr_runs::Observer;
@@ -118,7 +119,7 @@ pub fn try_noted<'y, B: Blocking, O: Observer>(
     ensures err { IfErr result (Refuses (Noted (λ text. TryEnds plan.entry.container.now
         (B.subject tables.now) answers.now text statuses.Refused))) }
 {
-    let mut sheet = Kept::new(alloc);
+    let mut sheet = VecSink::new(alloc);
     match try_plan(alloc, plan.container, tables, answers, observer, &mut sheet) {
         Ok(status) => Ok((status, sheet.into_bytes())),
         Err(Stop::Fault(_)) => Err(Stop::from(AllocError)),
@@ -137,7 +138,9 @@ pub fn refuse_line<'y>(
     source: &SourceFile<'_>,
     line: usize,
     note: &str,
-) -> Result<Stop<'y>, AllocError> {
+) -> Result<Stop<'y>, AllocError>
+    ensures { IfOk result (Refuses AnyText) }
+{
     let mut reason = reason_of_line(alloc, source.name(), source.bytes(), line)?;
     writeln!(reason, "    {note}")?;
     let notes = with_meaning(reason, subject)?;

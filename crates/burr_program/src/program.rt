@@ -1,20 +1,20 @@
 //! What the program does with its words and its streams, and the status that it ends with.
 
-ghost use Rattle.std.specs.Prelude.{◌≡◌, ◌≢◌, ◌≤◌, ◌<◌, [], codes, length, IfErr, IfOk, string_bytes};
+ghost use Rattle.std.specs.Prelude.{◌≡◌, ◌≢◌, ◌≤◌, ◌<◌, [], codes, length, map, string_bytes};
 ghost use Rattle.burr_io.specs.Sink.{Puts};
-ghost use Rattle.burr_io.specs.WholeLines.{lines_view};
+ghost use Rattle.burr_io.specs.LineWriter.{lines_view};
 ghost use Rattle.burr_runs.specs.declared.input.BenchFault.TheVariants.{Memory};
 ghost use Rattle.burr_runs.specs.Views.BenchText.{streams};
 ghost use Rattle.burr_judge.specs.Faults.{complaint_of, line_of, status_of_fault};
 ghost use Rattle.burr_judge.specs.Statuses.{code_of};
-ghost use Rattle.burr_program.specs.Ends.{DoesJob, IsEnd, IsRun, Replies, TakesText, took_by};
+ghost use Rattle.burr_program.specs.Ends.{IsEnd, IsReplied, IsRun, TakesText, took_by};
 ghost use Rattle.burr_program.specs.Finishing.{Answers, BareResult, Finishes, IsStatusOf};
 ghost use Rattle.burr_program.specs.HowFar.{IsReady, Tells};
 
 use crate::commands::do_job;
 use crate::done::Done;
-use burr_command::{Job, Reply, Request, request_of};
-use burr_io::{Sink, Source, WholeLines, WriteFault, put_all};
+use burr_command::{Reply, Request, request_of};
+use burr_io::{LineWriter, Sink, Source, WriteFault, put_all};
 use burr_judge::{Fault, Status, Stop, put_fault, report};
 use burr_runs::{BenchFault, bench_text};
 use std::alloc::{AllocError, Global};
@@ -25,8 +25,8 @@ use std::rt::Files;
 #[derive(Drop)]
 pub struct Streams<R, W, E, const N: usize, const M: usize> {
     pub source: R,
-    pub sink: WholeLines<W, N>,
-    pub errors: WholeLines<E, M>,
+    pub sink: LineWriter<W, N>,
+    pub errors: LineWriter<E, M>,
 }
 
 /// Does all that the program does, and returns its exit status. With the program's name alone it runs the bare
@@ -50,7 +50,7 @@ pub fn run_words<
     ensures run { length words.now ≤ 1 → IsRun
         (streams R.Source io.old.source io.new.source W.Sink io.old.sink.sink io.new.sink.sink)
         (took_by E.Sink io.old.errors.sink io.new.errors.sink) result }
-    ensures end { 1 < length words.now → IsEnd
+    ensures end { 1 < length words.now → IsEnd (map string_bytes words.now)
         (streams R.Source io.old.source io.new.source W.Sink io.old.sink.sink io.new.sink.sink)
         (took_by E.Sink io.old.errors.sink io.new.errors.sink) result }
 {
@@ -60,18 +60,12 @@ pub fn run_words<
         return finish(done, &mut io.sink, &mut io.errors).code();
     }
     match request_of(alloc, words) {
-        Ok(Request::Reply(reply)) => {
-            let done = answer(&reply, &mut io.sink);
-            finish(done, &mut io.sink, &mut io.errors).code()
-        }
+        Ok(Request::Reply(reply)) => answer(&reply, &mut io.sink, &mut io.errors).code(),
         Ok(Request::Job(job)) => {
             let done = status_of(do_job(files, &job, io));
             finish(done, &mut io.sink, &mut io.errors).code()
         }
-        Err(AllocError) => {
-            let done = Err(Stop::from(AllocError));
-            finish(done, &mut io.sink, &mut io.errors).code()
-        }
+        Err(AllocError) => end_by(&Fault::Memory, &mut io.errors).code(),
     }
 }
 
@@ -79,7 +73,7 @@ pub fn run_words<
 /// not UTF-8. Standard error gets the line for it.
 pub fn end_without_words<E: Sink, const N: usize>(
     kind: ErrorKind,
-    errors: &mut WholeLines<E, N>,
+    errors: &mut LineWriter<E, N>,
 ) -> u8
     requires told { errors.old.held ≡ [] }
     ensures memory { kind ≡ ErrorKind.OutOfMemory → (result ≡ 4) × TakesText
@@ -91,8 +85,7 @@ pub fn end_without_words<E: Sink, const N: usize>(
     if kind == ErrorKind::OutOfMemory {
         return end_by(&Fault::Memory, errors).code();
     }
-    let fault = Fault::CommandLine("error: a word of the command line is not UTF-8\n");
-    end_by(&fault, errors).code()
+    complain("error: a word of the command line is not UTF-8\n", errors).code()
 }
 
 /// Runs the bare code of the source, and writes its sheet.
@@ -100,7 +93,7 @@ pub fn end_without_words<E: Sink, const N: usize>(
 fn run_bare<'a, R: Source, W: Sink, const N: usize>(
     alloc: Global,
     source: &mut R,
-    sink: &mut WholeLines<W, N>,
+    sink: &mut LineWriter<W, N>,
 ) -> Result<Status, Stop<'a>>
     ensures { BareResult
         (streams R.Source source.old source.new (lines_view W.Sink) sink.old sink.new)
@@ -112,14 +105,31 @@ fn run_bare<'a, R: Source, W: Sink, const N: usize>(
     }
 }
 
-/// Writes help or the version; a fault of the words is the error.
-fn answer<'a, W: Sink>(reply: &'a Reply, sink: &mut W) -> Result<Status, Stop<'a>>
-    ensures { Answers W.Sink sink.old sink.new (string_bytes reply.entry.now.text) result }
+/// Writes help or the version on standard output, or what is wrong with the command line on standard error.
+/// Returns the status to end with.
+fn answer<W: Sink, E: Sink, const N: usize, const M: usize>(
+    reply: &Reply,
+    sink: &mut LineWriter<W, N>,
+    errors: &mut LineWriter<E, M>,
+) -> Status
+    requires fresh { sink.old.held ≡ [] }
+    requires told { errors.old.held ≡ [] }
+    ensures { IsReplied (string_bytes reply.now.text)
+        (took_by W.Sink sink.old.sink sink.new.sink)
+        (took_by E.Sink errors.old.sink errors.new.sink) (code_of result) }
 {
     if reply.is_fault {
-        return Err(Stop::Fault(Fault::CommandLine(&reply.text)));
+        return complain(&reply.text, errors);
     }
-    put_all(reply.text.as_bytes(), sink)?;
+    let done = put_text(&reply.text, sink);
+    finish(done, sink, errors)
+}
+
+/// Writes a text.
+fn put_text<'a, W: Sink>(text: &str, sink: &mut W) -> Result<Status, Stop<'a>>
+    ensures { Answers W.Sink sink.old sink.new text.now result }
+{
+    put_all(text.as_bytes(), sink)?;
     Ok(Status::Done)
 }
 
@@ -137,8 +147,8 @@ fn status_of<'a>(done: Result<Done<'a>, Stop<'a>>) -> Result<Status, Stop<'a>>
 /// to standard error. Returns the status to end with.
 fn finish<W: Sink, E: Sink, const N: usize, const M: usize>(
     done: Result<Status, Stop<'_>>,
-    sink: &mut WholeLines<W, N>,
-    errors: &mut WholeLines<E, M>,
+    sink: &mut LineWriter<W, N>,
+    errors: &mut LineWriter<E, M>,
 ) -> Status
     requires ready { IsReady E.Sink errors.old }
     ensures { Finishes W.Sink E.Sink sink.old sink.new errors.old errors.new done.entry result }
@@ -152,8 +162,23 @@ fn finish<W: Sink, E: Sink, const N: usize, const M: usize>(
     }
 }
 
+/// Writes what is wrong with the command line on standard error, unless that has failed, and returns the
+/// status to end with.
+fn complain<E: Sink, const N: usize>(text: &str, errors: &mut LineWriter<E, N>) -> Status
+    requires ready { IsReady E.Sink errors.old }
+    ensures status { result ≡ Status.CommandLine }
+    ensures told { Tells E.Sink errors.old errors.new text.now }
+{
+    if errors.failed() {
+        return Status::CommandLine;
+    }
+    let _ = put_all(text.as_bytes(), errors);
+    let _ = errors.flush();
+    Status::CommandLine
+}
+
 /// Reports a fault on standard error, unless that has failed, and returns the status to end with.
-fn end_by<E: Sink, const N: usize>(fault: &Fault<'_>, errors: &mut WholeLines<E, N>) -> Status
+fn end_by<E: Sink, const N: usize>(fault: &Fault<'_>, errors: &mut LineWriter<E, N>) -> Status
     requires ready { IsReady E.Sink errors.old }
     ensures status { result ≡ status_of_fault fault.now }
     ensures told { Tells E.Sink errors.old errors.new (line_of fault.now) }

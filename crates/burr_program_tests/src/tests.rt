@@ -1,5 +1,5 @@
 //! The program whole: words and streams in, status, output and complaints out.
-use burr_io::{Reading, WholeLines, Writing};
+use burr_io::{LineWriter, Reading, Writing};
 use burr_program::{Streams, run_words};
 use std::alloc::{AllocError, Global};
 use std::fs;
@@ -10,6 +10,8 @@ use std::rt::Files;
 mod bench;
 mod driving;
 mod examples;
+mod faulty_files;
+mod file_calls;
 mod file_faults;
 mod files;
 mod judging;
@@ -162,8 +164,8 @@ impl End {
     ) {
         let mut io: Streams<_, _, _, 64, 64> = Streams {
             source: Reading::new(&mut input),
-            sink: WholeLines::new(Writing::new(&mut self.output)),
-            errors: WholeLines::new(Writing::new(&mut self.complaint)),
+            sink: LineWriter::new(Writing::new(&mut self.output)),
+            errors: LineWriter::new(Writing::new(&mut self.complaint)),
         };
         self.status = run_words(rt, words, &mut io);
     }

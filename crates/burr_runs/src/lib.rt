@@ -44,7 +44,7 @@
 //!   memory was refused. A text is read in one way (`answers_are_read_in_one_way`).
 //! - `read_whole` takes memory. It answers `Read`, `TooLong` above 16,777,216 bytes, or `Memory`;
 //!   the source has given what was read.
-//! - The lines of refusals (`put_assembly_refusal` and its like) answer `WriteFault` where the sink
+//! - The lines of refusals (`put_container_refusal` and its like) answer `WriteFault` where the sink
 //!   failed, which has then taken a front.
 //!
 //! What a plan is to the verifier and to the bench says nothing of its version. So, of the
@@ -71,10 +71,7 @@ pub use laws::{
     an_input_has_one_output, an_upgraded_plan_is_judged_as_before, an_upgraded_plan_runs_as_before,
     answers_are_read_in_one_way,
 };
-pub use lines::{
-    put_accepted, put_answers_refusal, put_assembly_refusal, put_clash, put_container_refusal,
-    put_place_line,
-};
+pub use lines::{put_accepted, put_clash, put_container_refusal, put_place_line};
 pub use plan_refusal::PlanRefusal;
 pub use runs::{Observer, try_observed, try_plan};
 pub use text_runs::{Outcome, bench_text, check, run_plan};

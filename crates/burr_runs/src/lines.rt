@@ -1,7 +1,7 @@
 //! The lines that say a refusal or a verdict.
 
 ghost use Rattle.burr_io.specs.Sink.{Puts};
-ghost use Rattle.burr_runs.specs.Rules.Refusals.{place_line, answers_refusal, assembly_refusal, clash_line, container_refusal};
+ghost use Rattle.burr_runs.specs.Rules.Refusals.{place_line, assembly_refusal, clash_line, container_refusal};
 ghost use Rattle.burr_runs.specs.Rules.Verdicts.{accepted_line};
 
 use burr_assembly::{AssemblyFault, piece_name};
@@ -21,14 +21,6 @@ pub fn put_place_line<W: Sink>(
     let mut buffer = Buffer::new();
     let place = buffer.format(place).as_bytes();
     put_words(&[b"refused", subject, unit, place], sink)
-}
-
-/// Puts the refusal of answers by the number of the line, counted from 1, that is not an answer, as
-/// `refused answers line 2`.
-pub fn put_answers_refusal<W: Sink>(line: usize, sink: &mut W) -> Result<(), WriteFault>
-    ensures { Puts W.Sink sink.old sink.new (answers_refusal line) result }
-{
-    put_place_line(b"answers", b"line", line, sink)
 }
 
 /// Puts the line of the fault of an assembly's text, as `refused A4 line 7`, or `refused A8 line 7 A B`

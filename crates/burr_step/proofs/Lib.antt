@@ -8,7 +8,7 @@ mod DrivenRuns
 mod Driving
 mod EightSlots
 mod Going
-mod KeptDrives
+mod OwnedDrives
 mod Labels
 mod LedRuns
 mod Lines

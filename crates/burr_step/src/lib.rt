@@ -30,7 +30,7 @@
 //!   Where the run halts before that move, it makes the moves up to there and tells the `Halt`, and
 //!   the run stands there.
 //! - `new`, `halt` and `moves` say exactly what holds. `show` does what that of a stepper does.
-//! - A `KeptDrive`, which keeps its program and its assembly and borrows nothing, promises the same
+//! - A `OwnedDrive`, which keeps its program and its assembly and borrows nothing, promises the same
 //!   of its `new`, `next`, `go_to`, `answer` and `moves`. Its `new` takes memory, and answers
 //!   `AllocError` where that is refused; a `Drive` takes none.
 //!
@@ -53,18 +53,18 @@
 #![tactic(auto)]
 
 mod drive;
-mod kept_drive;
 mod laws;
+mod owned_drive;
 mod records;
 mod state_text;
 mod stepper;
 
 pub use drive::{Drive, Halt, Move, Question};
-pub use kept_drive::KeptDrive;
 pub use laws::{
     a_drive_tells_of_its_run, commands_are_refused_so, commands_come_to_something,
     commands_lead_to_one_state, drive_lines_are_short, going_back_forgets_steps,
     lines_of_commands_are_short, moves_are_joined_motions, moves_are_those_of_the_run,
     moves_go_on_with_more_answers, undoing_is_going_back,
 };
+pub use owned_drive::OwnedDrive;
 pub use stepper::{Paused, StepRefusal, Stepper};

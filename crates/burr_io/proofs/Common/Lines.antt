@@ -4,7 +4,7 @@ use Rattle.std.specs.Prelude.{Option}
 use Rattle.std.specs.Io.KnownBytes.{Appends, Keeps, append_known}
 use Rattle.std.proofs.KnownBytes.{Appends-kept}
 use Rattle.burr_io.specs.Sink.{SinkView, Takes, FailsWithin, TakesFront, HoldsFront}
-use Rattle.burr_io.specs.WholeLines.{Lines, lines_view}
+use Rattle.burr_io.specs.LineWriter.{Lines, lines_view}
 
 -- nothing is held back
 pub append_known-nil : (a : Option (List ℕ)) → append_known a [] ≡ a

@@ -1,4 +1,6 @@
+ghost use Rattle.std.specs.Prelude.{◌∷◌, [], codes};
 ghost use Rattle.burr_program.specs.Commands.{AsmCommand, AsmDone, SilentResult};
+ghost use Rattle.burr_program.specs.FileFaults.{CannotRewrite};
 
 use crate::done::Done;
 use crate::files::{check_out_not_input, read_file, write_file};
@@ -13,7 +15,8 @@ pub fn asm<'a, F: Files + AllocGlobal>(
     text: &'a str,
     out: &'a str,
 ) -> Result<Done<'a>, Stop<'a>>
-    ensures { SilentResult (AsmDone text.entry.now out.entry.now) AsmCommand result }
+    ensures { SilentResult (AsmDone text.entry.now out.entry.now) AsmCommand
+        (CannotRewrite (text.entry.now ∷ []) (codes "TEXT" ∷ []) out.entry.now) result }
 {
     check_out_not_input(files, &[("TEXT", text)], out)?;
     let source = read_file(files, text)?;

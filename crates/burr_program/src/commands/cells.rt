@@ -1,10 +1,11 @@
-ghost use Rattle.std.specs.Prelude.{◌≡◌, ◌++◌, ◌∷◌, IfOk, OnOk};
+ghost use Rattle.std.specs.Prelude.{◌≡◌, ◌++◌, ◌∷◌, [], IfOk, OnOk};
 ghost use Rattle.std.specs.Fmt.{signed_decimal};
 ghost use Rattle.std.specs.List.{flat_map};
 ghost use Rattle.burr_assembly.specs.Rules.Homes.{homes_of, names_of};
 ghost use Rattle.burr_judge.specs.PlanEnds.{never};
 ghost use Rattle.burr_program.specs.CellEnds.{cell_line, cell_lines};
 ghost use Rattle.burr_program.specs.Commands.{CellsCommand, CellsDone, CommandResult};
+ghost use Rattle.burr_program.specs.FileFaults.{CannotRead};
 
 use crate::done::Done;
 use crate::files::read_file;
@@ -24,7 +25,7 @@ pub fn cells<'a, F: Files + AllocGlobal, W: Sink>(
     sink: &mut W,
 ) -> Result<Done<'a>, Stop<'a>>
     ensures { CommandResult W.Sink sink.old sink.new (CellsDone assembly.entry.now) CellsCommand
-        never result }
+        (CannotRead (assembly.entry.now ∷ [])) never result }
 {
     let drawing = read_file(files, assembly)?;
     let assembly = read_assembly(files.alloc(), drawing.bytes())?;

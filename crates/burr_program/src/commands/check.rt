@@ -1,5 +1,7 @@
+ghost use Rattle.std.specs.Prelude.{◌∷◌, []};
 ghost use Rattle.burr_judge.specs.PlanEnds.{never};
 ghost use Rattle.burr_program.specs.Commands.{CheckCommand, CheckDone, CommandResult};
+ghost use Rattle.burr_program.specs.FileFaults.{CannotRead};
 
 use crate::done::Done;
 use crate::files::read_file;
@@ -16,7 +18,7 @@ pub fn check<'a, F: Files + AllocGlobal, W: Sink>(
     sink: &mut W,
 ) -> Result<Done<'a>, Stop<'a>>
     ensures { CommandResult W.Sink sink.old sink.new (CheckDone assembly.entry.now plan.entry.now)
-        CheckCommand never result }
+        CheckCommand (CannotRead (assembly.entry.now ∷ plan.entry.now ∷ [])) never result }
 {
     let drawing = read_file(files, assembly)?;
     let source = read_file(files, plan)?;

@@ -1,8 +1,6 @@
-ghost use Rattle.std.specs.Prelude.{IfErr};
 ghost use Rattle.burr_judge.specs.PlanEnds.{never};
 ghost use Rattle.burr_program.specs.Commands.{CommandResult, ExplainDone};
-ghost use Rattle.burr_program.specs.ExplainEnds.{ExplainEnds, FailsToExplain};
-ghost use Rattle.burr_judge.specs.Stops.{IsFaultIn};
+ghost use Rattle.burr_program.specs.ExplainEnds.{CannotExplain, ExplainEnds};
 
 use crate::done::Done;
 use burr_explain::{explanation_of, put_explanation};
@@ -14,9 +12,8 @@ use burr_judge::{Fault, Status, Stop};
 /// # Errors
 /// `Unknown` if nothing is explained under it.
 pub fn explain<'a, W: Sink>(line: &'a str, sink: &mut W) -> Result<Done<'a>, Stop<'a>>
-    ensures ends { CommandResult W.Sink sink.old sink.new (ExplainDone line.entry.now)
-        (ExplainEnds line.entry.now) never result }
-    ensures fails { IfErr result (IsFaultIn (FailsToExplain line.entry.now)) }
+    ensures { CommandResult W.Sink sink.old sink.new (ExplainDone line.entry.now)
+        (ExplainEnds line.entry.now) (CannotExplain line.entry.now) never result }
 {
     match explanation_of(line.as_bytes()) {
         Some(known) => {

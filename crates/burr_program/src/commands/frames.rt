@@ -1,7 +1,9 @@
-ghost use Rattle.std.specs.Prelude.{◌≡◌, [], IfOk};
+ghost use Rattle.std.specs.Prelude.{◌≡◌, ◌∷◌, [], codes, IfErr, IfOk};
 ghost use Rattle.burr_judge.specs.PlanEnds.{never};
+ghost use Rattle.burr_judge.specs.Stops.{Refuses};
 ghost use Rattle.burr_lines.specs.FilledTexts.{IsFilledIn};
 ghost use Rattle.burr_program.specs.Commands.{CommandResult, DoneEnds, FramesDone, PutsNotes};
+ghost use Rattle.burr_program.specs.FileFaults.{AnyText, CannotRewrite};
 ghost use Rattle.burr_program.specs.Ends.{runs_line};
 ghost use Rattle.burr_program.specs.HowFar.{IsReady, Tells, TellsRuns};
 
@@ -11,7 +13,7 @@ use crate::notes::{read_noted, reason_of_fault, try_noted, with_meaning};
 use burr_asm::{AsmFault, assemble};
 use burr_blocking::{Blocking, RowTables};
 use burr_container::Container;
-use burr_io::{Sink, WholeLines, put_all, put_words};
+use burr_io::{LineWriter, Sink, put_all, put_words};
 use burr_judge::{Refused, Status, Stop};
 use burr_lines::Unframed;
 use burr_trace::{Arrivals, Filled, Labels, MOST_RUNS, Questions, Sightings};
@@ -19,12 +21,12 @@ use itoa::Buffer;
 use std::alloc::{AllocError, Global};
 use std::rt::Files;
 
-/// After so many runs their number is reported.
+/// The number of runs is reported each time this many more were made.
 const RUNS_A_LINE: usize = 100;
 
 /// Writes a plan text to OUT, which may be no input, with a frame in place of each `auto`: one that agrees
-/// with the runs with all answers that its questions have. An `auto` for which there is none stays, and a
-/// refusal says why. After each hundred runs their number is reported on standard error.
+/// with the runs with all answers that its questions have. An `auto` stays if no frame is found for it, and a
+/// refusal says why. The number of runs is reported on standard error after each hundred.
 ///
 /// # Errors
 /// A run that does not come to its end is refused by what `try` prints of it, and OUT is left alone.
@@ -35,11 +37,13 @@ pub fn frames<'a, F: Files + AllocGlobal, W: Sink, E: Sink, const N: usize>(
     text: &'a str,
     out: &'a str,
     sink: &mut W,
-    errors: &mut WholeLines<E, N>,
+    errors: &mut LineWriter<E, N>,
 ) -> Result<Done<'a>, Stop<'a>>
     requires told { errors.old.held ≡ [] }
     ensures ends { CommandResult W.Sink sink.old sink.new
-        (FramesDone assembly.entry.now text.entry.now out.entry.now) DoneEnds never result }
+        (FramesDone assembly.entry.now text.entry.now out.entry.now) DoneEnds
+        (CannotRewrite (assembly.entry.now ∷ text.entry.now ∷ []) (codes "ASSEMBLY" ∷ codes "TEXT" ∷ [])
+        out.entry.now) never result }
     ensures told { TellsRuns E.Sink errors.old errors.new }
 {
     let inputs = [("ASSEMBLY", assembly), ("TEXT", text)];
@@ -85,11 +89,12 @@ fn fill_text<'y, E: Sink, const N: usize>(
     alloc: Global,
     drawing: &SourceFile<'_>,
     source: &SourceFile<'_>,
-    errors: &mut WholeLines<E, N>,
+    errors: &mut LineWriter<E, N>,
 ) -> Result<Filled, Stop<'y>>
     requires told { errors.old.held ≡ [] }
     ensures made { IfOk result (λ filled.
         IsFilledIn source.now.bytes.items filled.text.items) }
+    ensures err { IfErr result (Refuses AnyText) }
     ensures told { TellsRuns E.Sink errors.old errors.new }
 {
     let assembly = read_noted(alloc, drawing)?;
@@ -114,10 +119,11 @@ fn fill_by_runs<'y, B: Blocking, E: Sink, const N: usize>(
     tables: &B,
     unframed: &Unframed<'_>,
     blank: &[u8],
-    errors: &mut WholeLines<E, N>,
+    errors: &mut LineWriter<E, N>,
 ) -> Result<Filled, Stop<'y>>
     requires told { errors.old.held ≡ [] }
     ensures made { IfOk result (λ filled. IsFilledIn unframed.now filled.text.items) }
+    ensures err { IfErr result (Refuses AnyText) }
     ensures told { TellsRuns E.Sink errors.old errors.new }
 {
     let plan = source.beside(container, tables.assembly());
@@ -135,7 +141,9 @@ fn refuse_own_line<'y>(
     source: &SourceFile<'_>,
     unframed: &Unframed<'_>,
     fault: AsmFault,
-) -> Result<Stop<'y>, AllocError> {
+) -> Result<Stop<'y>, AllocError>
+    ensures { IfOk result (Refuses AnyText) }
+{
     let (code, line) = fault.code_and_line().ok_or(AllocError)?;
     let line = unframed.own_line(line);
     let notes = reason_of_fault(alloc, source, code, line)?;
@@ -149,9 +157,10 @@ fn make_runs<'y, B: Blocking, E: Sink, const N: usize>(
     labels: &Labels<'_, '_>,
     tables: &B,
     sightings: &mut Sightings,
-    errors: &mut WholeLines<E, N>,
+    errors: &mut LineWriter<E, N>,
 ) -> Result<&'static str, Stop<'y>>
     requires told { errors.old.held ≡ [] }
+    ensures err { IfErr result (Refuses AnyText) }
     ensures told { TellsRuns E.Sink errors.old errors.new }
 {
     let mut questions = Questions::new(alloc);
@@ -172,7 +181,9 @@ fn make_hundred<'y, B: Blocking>(
     tables: &B,
     questions: &mut Questions,
     sightings: &mut Sightings,
-) -> Result<bool, Stop<'y>> {
+) -> Result<bool, Stop<'y>>
+    ensures { IfErr result (Refuses AnyText) }
+{
     for _ in 0..RUNS_A_LINE {
         if !make_run(alloc, labels, tables, questions, sightings)? {
             return Ok(false);
@@ -188,7 +199,9 @@ fn make_run<'y, B: Blocking>(
     tables: &B,
     questions: &mut Questions,
     sightings: &mut Sightings,
-) -> Result<bool, Stop<'y>> {
+) -> Result<bool, Stop<'y>>
+    ensures { IfErr result (Refuses AnyText) }
+{
     let mut run = Arrivals::new(alloc, labels);
     let answers = questions.text(alloc)?;
     let (status, sheet) = try_noted(alloc, labels.plan, tables, answers.as_bytes(), &mut run)?;
@@ -210,7 +223,7 @@ fn make_run<'y, B: Blocking>(
 }
 
 /// Reports how many runs were made, unless standard error has failed.
-fn tell_runs<E: Sink, const N: usize>(count: usize, errors: &mut WholeLines<E, N>)
+fn tell_runs<E: Sink, const N: usize>(count: usize, errors: &mut LineWriter<E, N>)
     requires ready { IsReady E.Sink errors.old }
     ensures { Tells E.Sink errors.old errors.new (runs_line count) }
 {

@@ -2,21 +2,22 @@
 
 ghost use Rattle.std.specs.Prelude.{◌≡◌, [], MatchOption};
 ghost use Rattle.burr_io.specs.Sink.{Puts};
-ghost use Rattle.burr_io.specs.WholeLines.{lines_view};
+ghost use Rattle.burr_io.specs.LineWriter.{lines_view};
 ghost use Rattle.burr_runs.specs.Views.BenchText.{streams};
 ghost use Rattle.burr_judge.specs.PlanEnds.{never};
 ghost use Rattle.burr_judge.specs.StepEnds.{left_by};
 ghost use Rattle.burr_judge.specs.Stops.{ResultOn};
 ghost use Rattle.burr_program.specs.Commands.{CommandResult, FileResult, JudgeDone};
+ghost use Rattle.burr_program.specs.FileFaults.{NoMemory};
 ghost use Rattle.burr_program.specs.ListEnds.{IsPair, JudgeCommand, JudgeCommandBreaks, LineEnds, PairEnds, judged_line, max_status as max_of};
 ghost use Rattle.burr_program.specs.Judging.{TellsJudged, bytes_of};
 
 use crate::done::Done;
 use crate::files::read_file;
-use burr_io::{Kept, Sink, Source, WholeLines, WriteFault, put_all, put_number};
+use burr_io::{LineWriter, Sink, Source, VecSink, WriteFault, put_all, put_number};
 use burr_judge::{
-    Commanded, Fault, KEPT, LineEnd, PlanInput, ReadText, Status, StepFault, Stop, answer_commands,
-    report,
+    CommandHandler, Fault, LineEnd, MAX_LINE, PlanInput, ReadText, Status, StepFault, Stop,
+    answer_commands, report,
 };
 use burr_text::cut_at;
 use std::marker::Model;
@@ -31,12 +32,12 @@ pub fn judge<'a, F: Files + AllocGlobal, R: Source, W: Sink, const N: usize>(
     end: LineEnd,
     separator: u8,
     source: &mut R,
-    sink: &mut WholeLines<W, N>,
+    sink: &mut LineWriter<W, N>,
 ) -> Result<Done<'a>, Stop<'a>>
     requires fresh { sink.old.held ≡ [] }
     ensures { CommandResult (lines_view W.Sink) sink.old sink.new
         (JudgeDone end separator (left_by R.Source source.old source.new))
-        (JudgeCommand end separator (left_by R.Source source.old source.new))
+        (JudgeCommand end separator (left_by R.Source source.old source.new)) NoMemory
         (JudgeCommandBreaks end separator
         (streams R.Source source.old source.new W.Sink sink.old.sink sink.new.sink)) result }
 {
@@ -81,7 +82,7 @@ impl<'f, F: Files + AllocGlobal> Model for ListJudge<'f, F> {
     } };
 }
 
-impl<'f, F: Files + AllocGlobal> Commanded for ListJudge<'f, F> {
+impl<'f, F: Files + AllocGlobal> CommandHandler for ListJudge<'f, F> {
     ghost use Rattle.burr_program.specs.ListEnds.{AnswersPair, AsksNothing};
 
     ghost answers = { AnswersPair };
@@ -144,7 +145,7 @@ fn judge_line<F: Files + AllocGlobal>(
     let Some((assembly, plan)) = pair_of(separator, line) else {
         return (Status::Refused, Said::Instead(b"refused pair\n"));
     };
-    let mut said = Kept::new(files.alloc());
+    let mut said = VecSink::new(files.alloc());
     let done = judge_pair(files, known, assembly, plan, &mut said);
     match report(done, &mut said) {
         Ok(status) => (status, Said::Printed(said.into_bytes())),
@@ -212,7 +213,7 @@ fn read_once<'a, F: Files + AllocGlobal>(
 fn pair_of(separator: u8, line: &[u8]) -> Option<(&str, &str)>
     ensures { MatchOption result (¬ IsPair separator line.now) (λ _. IsPair separator line.now) }
 {
-    if KEPT <= line.len() {
+    if MAX_LINE <= line.len() {
         return None;
     }
     let (assembly, plan) = cut_at(line, separator)?;

@@ -1,6 +1,7 @@
-ghost use Rattle.std.specs.Prelude.{IfOk};
+ghost use Rattle.std.specs.Prelude.{◌∷◌, [], IfOk};
 ghost use Rattle.burr_judge.specs.PlanEnds.{never};
 ghost use Rattle.burr_program.specs.Commands.{CommandResult, IsContainerListing, ListCommand, ListDone};
+ghost use Rattle.burr_program.specs.FileFaults.{CannotRead};
 
 use crate::done::Done;
 use crate::files::read_file;
@@ -20,7 +21,7 @@ pub fn list<'a, F: Files + AllocGlobal, W: Sink>(
     sink: &mut W,
 ) -> Result<Done<'a>, Stop<'a>>
     ensures { CommandResult W.Sink sink.old sink.new (ListDone places plan.entry.now)
-        (ListCommand places) never result }
+        (ListCommand places) (CannotRead (plan.entry.now ∷ [])) never result }
 {
     let source = read_file(files, plan)?;
     let container = Container::parse(source.bytes())?;

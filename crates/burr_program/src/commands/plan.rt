@@ -1,5 +1,7 @@
-ghost use Rattle.std.specs.Prelude.{IfErr, IfOk};
-ghost use Rattle.burr_program.specs.Commands.{IsRefusalAmong, PlanSheetCommand, PlanSheetDone, SilentResult};
+ghost use Rattle.std.specs.Prelude.{◌∷◌, [], codes, IfErr, IfOk};
+ghost use Rattle.burr_judge.specs.Stops.{Refuses};
+ghost use Rattle.burr_program.specs.Commands.{PlanSheetCommand, PlanSheetDone, SilentResult};
+ghost use Rattle.burr_program.specs.FileFaults.{AnyText, CannotRewrite};
 ghost use Rattle.burr_program.specs.MakingEnds.{MakesPlanOf};
 
 use crate::done::Done;
@@ -24,7 +26,9 @@ pub fn plan<'a, F: Files + AllocGlobal>(
     out: &'a str,
 ) -> Result<Done<'a>, Stop<'a>>
     ensures { SilentResult
-        (PlanSheetDone assembly.entry.now sheet.entry.now out.entry.now) PlanSheetCommand result }
+        (PlanSheetDone assembly.entry.now sheet.entry.now out.entry.now) PlanSheetCommand
+        (CannotRewrite (assembly.entry.now ∷ sheet.entry.now ∷ []) (codes "ASSEMBLY" ∷ codes "SHEET" ∷ [])
+        out.entry.now) result }
 {
     let inputs = [("ASSEMBLY", assembly), ("SHEET", sheet)];
     check_out_not_input(files, &inputs, out)?;
@@ -47,8 +51,9 @@ fn plan_text<'y>(
     drawing: &SourceFile<'_>,
     sheet: &SourceFile<'_>,
 ) -> Result<Vec<u8>, Stop<'y>>
-    ensures { IfOk result (λ text.
+    ensures ok { IfOk result (λ text.
         MakesPlanOf drawing.now.bytes.items sheet.now.bytes.items text.items) }
+    ensures err { IfErr result (Refuses AnyText) }
 {
     let assembly = read_noted(alloc, drawing)?;
     let tables = RowTables::build(alloc, &assembly)?;
@@ -64,7 +69,9 @@ fn refuse_sheet<'y>(
     assembly: &Assembly,
     sheet: &SourceFile<'_>,
     fault: SheetFault,
-) -> Result<Stop<'y>, AllocError> {
+) -> Result<Stop<'y>, AllocError>
+    ensures { IfOk result (Refuses AnyText) }
+{
     let (line, note) = match fault {
         SheetFault::Memory => return Err(AllocError),
         SheetFault::Refused(draft) => return refuse_draft(alloc, assembly, sheet, draft),
@@ -87,7 +94,9 @@ fn refuse_draft<'y>(
     assembly: &Assembly,
     sheet: &SourceFile<'_>,
     draft: RefusedDraft,
-) -> Result<Stop<'y>, AllocError> {
+) -> Result<Stop<'y>, AllocError>
+    ensures { IfOk result (Refuses AnyText) }
+{
     let RefusedDraft {
         line,
         container,

@@ -1,6 +1,8 @@
+ghost use Rattle.std.specs.Prelude.{◌∷◌, [], codes};
 ghost use Rattle.burr_judge.specs.PlanEnds.{never};
 ghost use Rattle.burr_judge.specs.StepEnds.{left_by};
 ghost use Rattle.burr_program.specs.Commands.{AnsweredCommand, AnsweredDone, CommandResult};
+ghost use Rattle.burr_program.specs.FileFaults.{CannotRead};
 
 use crate::done::Done;
 use crate::files::read_file;
@@ -23,7 +25,8 @@ pub fn run<'a, F: Files + AllocGlobal, R: Source, W: Sink>(
     ensures { CommandResult W.Sink sink.old sink.new
         (AnsweredDone task (left_by R.Source answers.old answers.new) assembly.entry.now
         plan.entry.now)
-        (AnsweredCommand task (left_by R.Source answers.old answers.new)) never result }
+        (AnsweredCommand task (left_by R.Source answers.old answers.new))
+        (CannotRead (assembly.entry.now ∷ plan.entry.now ∷ codes "-" ∷ [])) never result }
 {
     let drawing = read_file(files, assembly)?;
     let source = read_file(files, plan)?;

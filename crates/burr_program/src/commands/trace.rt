@@ -1,10 +1,11 @@
-ghost use Rattle.std.specs.Prelude.{◌≡◌, IfErr, IfOk, codes};
+ghost use Rattle.std.specs.Prelude.{◌≡◌, ◌∷◌, [], IfErr, IfOk, codes};
 ghost use Rattle.burr_judge.specs.PlanEnds.{TryEnds, never};
 ghost use Rattle.burr_judge.specs.StepEnds.{left_by};
 ghost use Rattle.burr_judge.specs.Stops.{IsFault, Noted, Refuses, ResultOn};
 ghost use Rattle.burr_judge.specs.declared.status.Status.TheVariants as statuses;
 ghost use Rattle.burr_lines.specs.FilledTexts.{IsFilledIn};
 ghost use Rattle.burr_program.specs.Commands.{CommandResult, TraceCommand, TraceDone};
+ghost use Rattle.burr_program.specs.FileFaults.{CannotRead};
 ghost use Rattle.burr_program.specs.NotedEnds.{TracedEnds};
 
 use crate::done::Done;
@@ -33,7 +34,8 @@ pub fn trace<'a, F: Files + AllocGlobal, R: Source, W: Sink>(
 ) -> Result<Done<'a>, Stop<'a>>
     ensures { CommandResult W.Sink sink.old sink.new
         (TraceDone (left_by R.Source answers.old answers.new) assembly.entry.now text.entry.now)
-        (TraceCommand (left_by R.Source answers.old answers.new)) never result }
+        (TraceCommand (left_by R.Source answers.old answers.new))
+        (CannotRead (assembly.entry.now ∷ text.entry.now ∷ codes "-" ∷ [])) never result }
 {
     let drawing = read_file(files, assembly)?;
     let source = read_file(files, text)?;

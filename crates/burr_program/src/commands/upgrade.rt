@@ -1,4 +1,6 @@
+ghost use Rattle.std.specs.Prelude.{◌∷◌, [], codes};
 ghost use Rattle.burr_program.specs.Commands.{SilentResult, UpgradeCommand, UpgradeDone};
+ghost use Rattle.burr_program.specs.FileFaults.{CannotRewrite};
 
 use crate::done::Done;
 use crate::files::{check_out_not_input, read_file, write_file};
@@ -14,7 +16,8 @@ pub fn upgrade<'a, F: Files + AllocGlobal>(
     plan: &'a str,
     out: &'a str,
 ) -> Result<Done<'a>, Stop<'a>>
-    ensures { SilentResult (UpgradeDone plan.entry.now out.entry.now) UpgradeCommand result }
+    ensures { SilentResult (UpgradeDone plan.entry.now out.entry.now) UpgradeCommand
+        (CannotRewrite (plan.entry.now ∷ []) (codes "PLAN" ∷ []) out.entry.now) result }
 {
     check_out_not_input(files, &[("PLAN", plan)], out)?;
     let source = read_file(files, plan)?;

@@ -1,8 +1,9 @@
-ghost use Rattle.std.specs.Prelude.{[]};
+ghost use Rattle.std.specs.Prelude.{◌∷◌, []};
 ghost use Rattle.burr_judge.specs.PlanEnds.{never};
 ghost use Rattle.burr_judge.specs.Stops.{ResultOn};
 ghost use Rattle.burr_judge.specs.declared.tasks.Task.TheVariants as tasks;
 ghost use Rattle.burr_program.specs.Commands.{CommandResult, WhyCommand, WhyDone};
+ghost use Rattle.burr_program.specs.FileFaults.{CannotRead};
 ghost use Rattle.burr_program.specs.NotedEnds.{NotedEnds};
 
 use crate::done::Done;
@@ -25,7 +26,7 @@ pub fn why<'a, F: Files + AllocGlobal, W: Sink>(
     sink: &mut W,
 ) -> Result<Done<'a>, Stop<'a>>
     ensures { CommandResult W.Sink sink.old sink.new (WhyDone assembly.entry.now text.entry.now)
-        WhyCommand never result }
+        WhyCommand (CannotRead (assembly.entry.now ∷ text.entry.now ∷ [])) never result }
 {
     let drawing = read_file(files, assembly)?;
     let source = read_file(files, text)?;

@@ -1,166 +1,7 @@
 //! Calls on files that fail, one at a time.
+use super::faulty_files::{Calls, Failing, Faulty};
 use super::transcript::{assert_examples, assert_transcript};
 use super::*;
-use std::alloc::{Alloc, Allocator};
-use std::cell::Cell;
-use std::fs::{Metadata, OpenFile, OpenOptions, Permissions};
-use std::io::{Empty, Seek, SeekFrom};
-use std::path::PathBuf;
-
-/// Counts the calls on files, and lets one of them fail.
-#[derive(Drop)]
-struct Calls {
-    before: Cell<usize>,
-    has_failed: Cell<bool>,
-}
-
-impl Calls {
-    /// Counts a call.
-    fn count(&self) -> io::Result<()> {
-        let before = self.before.get();
-        if before == 0 && !self.has_failed.get() {
-            self.has_failed.set(true);
-            return Err(io::Error::from(io::ErrorKind::Other));
-        }
-        self.before.set(before.saturating_sub(1));
-        Ok(())
-    }
-}
-
-/// What the program never does with files.
-fn unused<T>() -> io::Result<T> {
-    Err(io::Error::from(io::ErrorKind::Unsupported))
-}
-
-/// An open file of a runtime whose files fail.
-#[derive(Drop)]
-struct FaultyFile<'a, F> {
-    file: F,
-    calls: &'a Calls,
-}
-
-impl<F: Read> Read for FaultyFile<'_, F> {
-    fn read(&mut self, buffer: &mut [u8]) -> io::Result<usize> {
-        self.calls.count()?;
-        let count = buffer.len().min(1);
-        self.file.read(&mut buffer[..count])
-    }
-}
-
-impl<F: Write> Write for FaultyFile<'_, F> {
-    fn write(&mut self, bytes: &[u8]) -> io::Result<usize> {
-        self.calls.count()?;
-        self.file.write(&bytes[..bytes.len().min(1)])
-    }
-
-    fn flush(&mut self) -> io::Result<()> {
-        unused()
-    }
-}
-
-impl<F> Seek for FaultyFile<'_, F> {
-    fn seek(&mut self, _to: SeekFrom) -> io::Result<u64> {
-        unused()
-    }
-}
-
-impl<F: OpenFile> OpenFile for FaultyFile<'_, F> {
-    fn metadata(&self) -> io::Result<Metadata> {
-        unused()
-    }
-
-    fn set_len(&self, _size: u64) -> io::Result<()> {
-        unused()
-    }
-
-    fn sync_all(&self) -> io::Result<()> {
-        self.calls.count()?;
-        self.file.sync_all()
-    }
-
-    fn sync_data(&self) -> io::Result<()> {
-        unused()
-    }
-
-    fn set_permissions(&self, permissions: Permissions) -> io::Result<()> {
-        self.calls.count()?;
-        self.file.set_permissions(permissions)
-    }
-}
-
-/// A runtime with files: one call to them fails, and each call moves one byte.
-#[derive(Drop)]
-struct Faulty<'a, T> {
-    rt: &'a T,
-    calls: &'a Calls,
-}
-
-impl<T: AllocGlobal> Alloc for Faulty<'_, T> {
-    type A = Global;
-
-    fn alloc(&self) -> Global {
-        self.rt.alloc()
-    }
-}
-
-impl<'a, T: Files> Files for Faulty<'a, T> {
-    type File = FaultyFile<'a, T::File>;
-
-    type Dir = Empty;
-
-    fn open_file(&self, how: &OpenOptions, path: &str) -> io::Result<FaultyFile<'a, T::File>> {
-        self.calls.count()?;
-        let file = self.rt.open_file(how, path)?;
-        Ok(FaultyFile {
-            file,
-            calls: self.calls,
-        })
-    }
-
-    fn open_dir(&self, _path: &str) -> io::Result<Empty> {
-        unused()
-    }
-
-    fn metadata(&self, path: &str) -> io::Result<Metadata> {
-        self.calls.count()?;
-        self.rt.metadata(path)
-    }
-
-    fn symlink_metadata(&self, _path: &str) -> io::Result<Metadata> {
-        unused()
-    }
-
-    fn copy(&self, _from: &str, _to: &str) -> io::Result<u64> {
-        unused()
-    }
-
-    fn rename(&self, from: &str, to: &str) -> io::Result<()> {
-        self.calls.count()?;
-        self.rt.rename(from, to)
-    }
-
-    fn remove_file(&self, path: &str) -> io::Result<()> {
-        self.calls.count()?;
-        self.rt.remove_file(path)
-    }
-
-    fn create_dir(&self, _path: &str) -> io::Result<()> {
-        unused()
-    }
-
-    fn remove_dir(&self, _path: &str) -> io::Result<()> {
-        unused()
-    }
-
-    fn remove_dir_all<B: Allocator>(&self, _alloc: B, _path: &str) -> io::Result<()> {
-        unused()
-    }
-
-    fn canonicalize<B: Allocator>(&self, alloc: B, path: &str) -> io::Result<PathBuf<B>> {
-        self.calls.count()?;
-        self.rt.canonicalize(alloc, path)
-    }
-}
 
 /// More calls on files than a small container takes.
 const MANY: usize = 1000;
@@ -187,13 +28,10 @@ struct Faults {
 fn end_after<T: Files + AllocGlobal>(rt: &T, making: Making<'_>, before: usize) -> Option<End> {
     let _ = fs::remove_file(rt, "made");
     let _ = fs::copy(rt, making.old, "made");
-    let calls = Calls {
-        before: Cell::new(before),
-        has_failed: Cell::new(false),
-    };
+    let calls = Calls::new(rt.alloc(), Failing::After(before));
     let faulty = Faulty { rt, calls: &calls };
     let end = end_over(&faulty, making.words, Drips::of(""));
-    calls.has_failed.get().then_some(end)
+    calls.have_failed().then_some(end)
 }
 
 /// The file that has to stand as `made` after a command; none where it should not have ended so. Its
@@ -258,13 +96,10 @@ fn assert_faults<T: Abort + Files + AllocGlobal>(rt: &T, command: &str, from: &s
 /// How a list ends where the call on files after the first `before` fails; None where it makes no such
 /// call.
 fn end_of_faulty<T: Files + AllocGlobal>(rt: &T, words: &[String], before: usize) -> Option<End> {
-    let calls = Calls {
-        before: Cell::new(before),
-        has_failed: Cell::new(false),
-    };
+    let calls = Calls::new(rt.alloc(), Failing::After(before));
     let faulty = Faulty { rt, calls: &calls };
     let end = end_over(&faulty, words, Drips::of("duo\tduo.plan\nduo\tduo.bpln\n"));
-    calls.has_failed.get().then_some(end)
+    calls.have_failed().then_some(end)
 }
 
 /// A call that fails is that of a file of the first line, or of the second one.

@@ -596,8 +596,8 @@ fn answers_a_line_before_it_reads_the_next(rt: HostRuntime) {
             drips,
             lines: &lines,
         }),
-        sink: WholeLines::new(Writing::new(Counting { lines: &lines })),
-        errors: WholeLines::new(Writing::new(&mut complaint)),
+        sink: LineWriter::new(Writing::new(Counting { lines: &lines })),
+        errors: LineWriter::new(Writing::new(&mut complaint)),
     };
     let status = run_words(&rt, &words, &mut io);
     assert_case(&rt, "status", status == 3);

@@ -616,6 +616,14 @@ $burr try duo bpln
 >levels -
 >waiting 0 1 after 0 steps
 ?5
+$burr try duo bpln
+>levels -
+>waiting 0 1 after 0 steps
+?5
+$burr run duo bpln
+>levels -
+>waiting 0 1 after 0 steps
+?5
 @plan
 /duo/cup
 =plan

@@ -20,18 +20,24 @@ fn is_read<T: Abort + Files + AllocGlobal>(rt: &T, line: &str, input: &str) -> b
     end_over(rt, &words, Drips { left, calls }).is_like(&end_of(rt, line, input))
 }
 
-/// Whether nothing of standard input is read.
-fn is_unread<T: Abort + Files + AllocGlobal>(rt: &T, line: &str) -> bool {
+/// The status that a command line ends with if it reads nothing of standard input.
+fn status_unread<T: Abort + Files + AllocGlobal>(rt: &T, line: &str) -> Option<u8> {
     let mut input = Drips::of("2\n");
     let end = end_with(rt, line, &mut input);
-    end.status < 3 && input.calls == usize::MAX
+    (input.calls == usize::MAX).then_some(end.status)
 }
 
-/// The command lines that read answers.
+/// The command lines that read answers: all of them, also if the plan or the assembly is refused.
 const READING: &str = "\
 burr run cup cup.bpln
 burr try cup cup.bpln
 burr trace cup cup.plan
+burr run cup duo.bpln
+burr try cup duo.bpln
+burr trace cup duo.plan
+burr run cup.plan cup.bpln
+burr try cup.plan cup.bpln
+burr trace cup.plan cup.plan
 ";
 
 /// Command lines that read no standard input.
@@ -60,7 +66,44 @@ fn tells_a_source_that_fails(rt: HostRuntime) {
         assert_case(&rt, line, is_read(&rt, line, "2\n"));
     }
     for line in NOT_READING.lines() {
-        assert_case(&rt, line, is_unread(&rt, line));
+        let status = status_unread(&rt, line);
+        assert_case(&rt, line, status.is_some_and(|status| status < 3));
+    }
+}
+
+/// The commands that read standard input after their files, with `*` in place of one of these.
+const READING_FILES: &str = "\
+burr run * cup.bpln
+burr run cup *
+burr try * cup.bpln
+burr try cup *
+burr trace * cup.plan
+burr trace cup *
+burr step * cup.bpln
+burr step cup *
+burr drive * cup.bpln
+burr drive cup *
+";
+
+/// An assembly or a plan that is refused before a command is read.
+const REFUSED: &str = "\
+burr step cup.plan cup.bpln
+burr step cup cup.plan
+burr step cup duo.bpln
+burr drive cup.plan cup.bpln
+burr drive cup cup
+burr drive cup duo.bpln
+burr drive cup duo.plan
+";
+
+#[test]
+fn reads_no_input_after_a_refusal(rt: HostRuntime) {
+    assert_transcript(&rt, EXAMPLES);
+    for line in replaced(&rt, READING_FILES, "*", "none").lines() {
+        assert_case(&rt, line, status_unread(&rt, line) == Some(3));
+    }
+    for line in REFUSED.lines() {
+        assert_case(&rt, line, status_unread(&rt, line) == Some(1));
     }
 }
 
@@ -255,7 +298,7 @@ fn replies_to_other_words_alike(rt: HostRuntime) {
 /// How the program ends where words can't be had.
 fn end_without(kind: io::ErrorKind) -> End {
     let mut end = End::new();
-    let mut complaints: WholeLines<_, 64> = WholeLines::new(Writing::new(&mut end.complaint));
+    let mut complaints: LineWriter<_, 64> = LineWriter::new(Writing::new(&mut end.complaint));
     end.status = end_without_words(kind, &mut complaints);
     end
 }

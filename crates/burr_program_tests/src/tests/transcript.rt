@@ -124,12 +124,12 @@ fn are_named_alike<T: Files + AllocGlobal>(rt: &T, names: &str) -> bool {
 }
 
 /// Adds two texts to a text; false where there is no memory for them.
-fn add(text: &mut String, more: &str, end: &str) -> bool {
+pub fn add(text: &mut String, more: &str, end: &str) -> bool {
     text.push_str(more).is_ok() && text.push_str(end).is_ok()
 }
 
 /// The number that a digit stands for.
-fn digit(text: &str) -> u8 {
+pub fn digit(text: &str) -> u8 {
     match text.as_bytes() {
         [digit] => digit.wrapping_sub(b'0'),
         _ => u8::MAX,

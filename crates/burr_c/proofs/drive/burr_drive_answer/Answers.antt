@@ -6,16 +6,16 @@ use Rattle.burr_step.specs.Views.Stepping.{Stepping}
 use Rattle.burr_c.specs.DriveCalls.{AnswerComes, answered, code_of}
 use Rattle.burr_c.specs.declared.handle.KeptRun.{KeptRun}
 use Rattle.burr_c.specs.declared.handle.KeptRun.TheVariants.{Drive, Stepper}
-use Rattle.burr_c.specs.declared.drive.Came.{Came}
-use Rattle.burr_c.specs.declared.drive.Came.TheVariants.{Closed}
+use Rattle.burr_c.specs.declared.drive.DriveStatus.{DriveStatus}
+use Rattle.burr_c.specs.declared.drive.DriveStatus.TheVariants.{Closed}
 use Rattle.burr_c.proofs.drive.burr_drive_answer.Goals as goal
 use Rattle.burr_c.proofs.drive.burr_drive_answer.Goals.{in-Drive+then-answer, in-Drive+else-answer, in-Stepper}
 
-comes : (question : ℕ) (answer : ℤ) (was new : Option KeptRun) (old now : Driving) (taken : Bool) (came : Came) (code : ℕ) → was ≡ Some (Drive old)
+comes : (question : ℕ) (answer : ℤ) (was new : Option KeptRun) (old now : Driving) (taken : Bool) (came : DriveStatus) (code : ℕ) → was ≡ Some (Drive old)
     → new ≡ Some (Drive now) → Answers question answer old taken now → came ≡ answered taken → code ≡ code_of came → AnswerComes question answer was new code
 comes question answer was new old now taken came code opened kept answers said told = rw opened (now, taken, kept, answers, told ∙ ap code_of said)
 
-closed : (question : ℕ) (answer : ℤ) (was new : Option KeptRun) (s : Stepping) (came : Came) (code : ℕ) → was ≡ Some (Stepper s)
+closed : (question : ℕ) (answer : ℤ) (was new : Option KeptRun) (s : Stepping) (came : DriveStatus) (code : ℕ) → was ≡ Some (Stepper s)
     → new ≡ Some (Stepper s) → came ≡ Closed → code ≡ code_of came → AnswerComes question answer was new code
 closed question answer was new s came code opened kept said told = rw opened (kept, told ∙ ap code_of said)
 

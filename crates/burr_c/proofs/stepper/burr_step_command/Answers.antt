@@ -9,7 +9,7 @@ use Rattle.burr_c.specs.declared.handle.KeptRun.TheVariants.{Drive, Stepper}
 use Rattle.burr_c.specs.declared.printed.CallFault.{CallFault}
 use Rattle.burr_c.specs.declared.printed.CallFault.TheVariants.{Memory}
 use Rattle.burr_c.specs.declared.printed.Printed.{Printed}
-use Rattle.burr_c.specs.declared.drive.Came.TheVariants.{Closed}
+use Rattle.burr_c.specs.declared.drive.DriveStatus.TheVariants.{Closed}
 use Rattle.burr_c.specs.Calls.{Call, Gives, call}
 use Rattle.burr_c.specs.DriveCalls.{code_of}
 use Rattle.burr_c.specs.Statuses.{status_of_fault}
@@ -27,26 +27,26 @@ answered line was new old now (Err fault) c opened kept ok err gives fails =
 
 unanswered : (line : List ℕ) (was new : Option KeptRun) (d : Driving) (c : Call) → was ≡ Some (Drive d) → new ≡ Some (Drive d) → c.new ≡ c.old → c.size ≡ 0
     → c.code ≡ code_of Closed → CommandComes line was new c
-unanswered line was new d c opened kept room size code = rw opened (kept, room, size, code)
+unanswered line was new d c opened kept buffer size code = rw opened (kept, buffer, size, code)
 
 pub returns : goal.returns
 returns c =
-    let room = c.args.room.now in
+    let buffer = c.args.buffer.now in
     let was = c.args.run.now.value in
     let new = c.put.new.self.value in
     let taken = c.in-Some.ensures.taken ∙ ap (λ (k : KeptRun). Some k) (sym c.deref_mut.ensures.value) in
     elim c.match-deref_mut.branch [
       | in-Stepper w ↦
-          subst (λ (r : List ℕ). CommandComes c.args.line.now was new (call room r c.match-deref_mut.size c.match-deref_mut.code)) (sym w.room-is)
-          (subst (λ (n : ℕ). CommandComes c.args.line.now was new (call room w.give-code.new.room n c.match-deref_mut.code)) (sym w.size-is)
-          (subst (λ (n : ℕ). CommandComes c.args.line.now was new (call room w.give-code.new.room w.give-code.new.size n)) (sym w.code-is)
+          subst (λ (r : List ℕ). CommandComes c.args.line.now was new (call buffer r c.match-deref_mut.size c.match-deref_mut.code)) (sym w.buffer-is)
+          (subst (λ (n : ℕ). CommandComes c.args.line.now was new (call buffer w.give-code.new.buffer n c.match-deref_mut.code)) (sym w.size-is)
+          (subst (λ (n : ℕ). CommandComes c.args.line.now was new (call buffer w.give-code.new.buffer w.give-code.new.size n)) (sym w.code-is)
           (answered c.args.line.now was new w.in-Stepper.stepper w.print_answer.new.stepper w.print_answer.result
-          (call room w.give-code.new.room w.give-code.new.size w.give-code.result) (taken ∙ ap (λ (k : KeptRun). Some k) w.in-Stepper.is)
+          (call buffer w.give-code.new.buffer w.give-code.new.size w.give-code.result) (taken ∙ ap (λ (k : KeptRun). Some k) w.in-Stepper.is)
           (c.put.ensures ∙ ap (λ (b : Box KeptRun Global). Some b.value) w.open-is) w.print_answer.ensures.ok w.print_answer.ensures.err w.give-code.ensures.ok
           w.give-code.ensures.err)))
       | in-Drive w ↦
-          unanswered c.args.line.now was new w.in-Drive.field-0 (call room c.match-deref_mut.room c.match-deref_mut.size c.match-deref_mut.code)
+          unanswered c.args.line.now was new w.in-Drive.field-0 (call buffer c.match-deref_mut.buffer c.match-deref_mut.size c.match-deref_mut.code)
           (taken ∙ ap (λ (k : KeptRun). Some k) w.in-Drive.is)
-          (c.put.ensures ∙ ap (λ (b : Box KeptRun Global). Some b.value) w.open-is ∙ ap (λ (k : KeptRun). Some k) w.in-Drive.is) w.room-is w.size-is
+          (c.put.ensures ∙ ap (λ (b : Box KeptRun Global). Some b.value) w.open-is ∙ ap (λ (k : KeptRun). Some k) w.in-Drive.is) w.buffer-is w.size-is
           (w.code-is ∙ w.code-code.ensures)
     ]

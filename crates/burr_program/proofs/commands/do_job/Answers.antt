@@ -1,8 +1,8 @@
 use Rattle.std.proofs.Common.{ℕ, List, [], refl, subst}
-use Rattle.burr_io.specs.WholeLines.{lines_view}
+use Rattle.burr_io.specs.LineWriter.{lines_view}
 use Rattle.burr_judge.specs.PlanEnds.{never}
 use Rattle.burr_program.specs.Commands.{CommandResult, ExplainDone}
-use Rattle.burr_program.specs.ExplainEnds.{ExplainEnds}
+use Rattle.burr_program.specs.ExplainEnds.{CannotExplain, ExplainEnds}
 use Rattle.burr_program.proofs.HowFar.{tells_nothing}
 use Rattle.burr_program.proofs.Results.{silent_command}
 use Rattle.burr_program.proofs.commands.do_job.Goals as goal
@@ -18,6 +18,12 @@ returns-in-Check-clause-ends g c = rw c.in-Check.is c.check.ensures
 
 pub returns-in-Run-clause-ends : goal.returns-in-Run-clause-ends
 returns-in-Run-clause-ends g c = rw c.in-Run.is c.run.ensures
+
+pub returns-in-Step-clause-ends : goal.returns-in-Step-clause-ends
+returns-in-Step-clause-ends g c = rw c.in-Step.is c.step.ensures
+
+pub returns-in-Drive-clause-ends : goal.returns-in-Drive-clause-ends
+returns-in-Drive-clause-ends g c = rw c.in-Drive.is c.drive.ensures
 
 pub returns-in-Why-clause-ends : goal.returns-in-Why-clause-ends
 returns-in-Why-clause-ends g c = rw c.in-Why.is c.why.ensures
@@ -42,7 +48,7 @@ returns-in-PlanSheet-clause-ends g c = rw c.in-PlanSheet.is (silent_command c.pl
 
 pub returns-in-Explain-clause-ends : goal.returns-in-Explain-clause-ends
 returns-in-Explain-clause-ends g c =
-    rw c.in-Explain.is (subst (λ (line : List ℕ). CommandResult (lines_view g.W.Sink) c.args.io.now.sink c.explain.new.sink (ExplainDone line) (ExplainEnds line) never c.explain.result) c.deref.ensures c.explain.ensures.ends)
+    rw c.in-Explain.is (subst (λ (line : List ℕ). CommandResult (lines_view g.W.Sink) c.args.io.now.sink c.explain.new.sink (ExplainDone line) (ExplainEnds line) (CannotExplain line) never c.explain.result) c.deref.ensures c.explain.ensures)
 
 pub returns-in-Cells-clause-told : goal.returns-in-Cells-clause-told
 returns-in-Cells-clause-told g c = rw c.in-Cells.is ([], refl, tells_nothing g.E.Sink c.args.io.now.errors c.requires.told)

@@ -1,7 +1,7 @@
-use Rattle.std.proofs.Common.{inl, inr}
+use Rattle.std.proofs.Common.{ap, refl, inl, inr}
+use Rattle.burr_judge.specs.Statuses.{code_of}
 use Rattle.burr_program.proofs.Bare.{bare_run}
 use Rattle.burr_program.proofs.Jobs.{job_done}
-use Rattle.burr_program.proofs.Replies.{fault_done, reply_done}
 use Rattle.burr_program.proofs.program.run_words.Goals as goal
 
 pub returns-then-words-le1-clause-run : goal.returns-then-words-le1-clause-run
@@ -10,26 +10,17 @@ returns-then-words-le1-clause-run g c = λ few.
     c.run_bare-done.result c.finish.result c.requires.fresh c.run_bare-done.ensures.is c.finish.ensures.so)
 
 pub returns-in-Ok-Reply-clause-end : goal.returns-in-Ok-Reply-clause-end
-returns-in-Ok-Reply-clause-end g c = λ more.
-    rw c.code-in-Ok-Reply.ensures (inl (
-      _,
-      reply_done g.W.Sink c.args.io.now.sink c.answer-done.new.sink c.finish-in-Ok-Reply.new.sink g.E.Sink c.args.io.now.errors c.finish-in-Ok-Reply.new.errors
-          _ c.answer-done.result c.finish-in-Ok-Reply.result c.requires.fresh c.requires.told c.answer-done.ensures c.finish-in-Ok-Reply.ensures,
-    ))
+returns-in-Ok-Reply-clause-end g c = λ more. rw c.code-in-Ok-Reply.ensures (inl (_, c.answer.ensures))
 
 pub returns-in-Ok-Job-clause-end : goal.returns-in-Ok-Job-clause-end
 returns-in-Ok-Job-clause-end g c = λ more.
-    rw c.code-in-Ok-Job.ensures (inr (
+    rw c.code-in-Ok-Job.ensures (inr (inl (
       c.in-Ok-Job.job,
+      rw c.in-Ok-Job.field-0-is at c.in-Ok-Job.ensures,
       job_done g.R.Source c.args.io.now.source c.do_job.new.io.source g.W.Sink c.args.io.now.sink c.do_job.new.io.sink c.finish-in-Ok-Job.new.sink
           g.E.Sink c.args.io.now.errors c.do_job.new.io.errors c.finish-in-Ok-Job.new.errors c.in-Ok-Job.job c.do_job.result c.status_of-done.result c.finish-in-Ok-Job.result
-          c.requires.fresh c.do_job.ensures.ends c.status_of-done.ensures c.do_job.ensures.told c.finish-in-Ok-Job.ensures.so,
-    ))
+          c.requires.fresh (rw c.in-Ok-Job.field-0-is at c.do_job.ensures.ends) c.status_of-done.ensures (rw c.in-Ok-Job.field-0-is at c.do_job.ensures.told) c.finish-in-Ok-Job.ensures.so,
+    )))
 
 pub returns-in-Err-clause-end : goal.returns-in-Err-clause-end
-returns-in-Err-clause-end g c = λ more.
-    rw c.code-in-Err.ensures (inl (
-      _,
-      fault_done g.W.Sink c.args.io.now.sink c.finish-in-Err.new.sink g.E.Sink c.args.io.now.errors c.finish-in-Err.new.errors
-          _ c.from.result c.finish-in-Err.result c.from.ensures c.finish-in-Err.ensures,
-    ))
+returns-in-Err-clause-end g c = λ more. rw c.code-in-Err.ensures (inr (inr (ap code_of c.end_by.ensures.status, c.end_by.ensures.told.takes, refl)))

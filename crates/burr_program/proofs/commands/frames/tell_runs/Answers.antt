@@ -2,7 +2,7 @@ use Rattle.std.proofs.Common.{◌≡◌, ◌∷◌, [], ℕ, List, sym, subst, �
 use Rattle.std.specs.Prelude.{codes, decimal}
 use Rattle.burr_text.specs.Words.{text_line}
 use Rattle.burr_io.specs.Sink.{Puts}
-use Rattle.burr_io.specs.WholeLines.{lines_view}
+use Rattle.burr_io.specs.LineWriter.{lines_view}
 use Rattle.burr_program.specs.Ends.{runs_line}
 use Rattle.burr_program.proofs.HowFar.{tells}
 use Rattle.burr_program.proofs.commands.frames.tell_runs.Goals as goal
