@@ -47,6 +47,7 @@ LISTED_PAIR = re.compile(
 CELLS = re.compile(rb"(?:[A-Za-z][A-Za-z0-9_-]*(?: (?:0|-?[1-9][0-9]*)){3}\n)+")
 LISTED = re.compile(rb"(?:[ -~]+\n)+")
 FAULT = re.compile(rb"cannot (?:read|write) .*\n", re.DOTALL)
+PROGRESS = re.compile(rb"(frames: [0-9]+00 runs\n)*")
 COMPLAINT = re.compile(
     rb"error: (?:a word of the command line is not UTF-8|nothing is explained under .*"
     rb"|OUT is (?:TEXT|PLAN|SHEET|ASSEMBLY) itself: .*)\n"
@@ -130,6 +131,8 @@ def judge(command, answer, is_free):
     """Tells whether status, output and complaint go together. Where `is_free`, the words may have asked for help, and
     files may be missing or too large."""
     status, output, complaint = answer
+    if command == "frames":
+        complaint = complaint.removeprefix(PROGRESS.match(complaint).group())
     if command == "judge" and not complaint and worst_of(output) == status:
         return
     output, told = parts_of(command, output)

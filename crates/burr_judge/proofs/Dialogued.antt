@@ -116,13 +116,13 @@ module _ {R S : Type 0} (source : SourceView R) (first last : R) (sink : SinkVie
   led_broken old new fault ready began breaks = broken (complaint_of fault) (inr (sink.taken mid.sink, began, (fault, refl, (old, new, ready, breaks))))
 
 -- the sink failed while it was told that the run is ready, or memory was refused
-pub begin_stops : {R S : Type 0} (source : SourceView R) (first last : R) (sink : SinkView S) (before after : Lines S) (text bytes : List ℕ) (j : Judged) {AreEnds : Ends} {r : Result Status Stop} {stop : Stop}
+pub begin_stops : {R S : Type 0} (source : SourceView R) (first : R) (sink : SinkView S) (before after : Lines S) (text bytes : List ℕ) (j : Judged) {AreEnds : Ends} {r : Result Status Stop} {stop : Stop}
     → IsFaultIn (FailsToBegin sink before after (ready_text text bytes)) stop → IsErrAnd r (λ e. e ≡ stop)
-    → ResultOn (lines_view sink) before after AreEnds (LedBreaks (streams source first last sink before.sink after.sink) text bytes j) r
-begin_stops source first last sink before after text bytes j {AreEnds} = breaks_by begins
+    → ResultOn (lines_view sink) before after AreEnds (LedBreaks (streams source first first sink before.sink after.sink) text bytes j) r
+begin_stops source first sink before after text bytes j {AreEnds} = breaks_by begins
   where
-    begins : (line : List ℕ) → FailsToBegin sink before after (ready_text text bytes) line → Stops (lines_view sink) before after AreEnds (LedBreaks (streams source first last sink before.sink after.sink) text bytes j) line
-    begins line (inl fails) = inr (inl fails)
+    begins : (line : List ℕ) → FailsToBegin sink before after (ready_text text bytes) line → Stops (lines_view sink) before after AreEnds (LedBreaks (streams source first first sink before.sink after.sink) text bytes j) line
+    begins line (inl (is, holds, failed)) = inr (inl (is, holds, failed, refl))
     begins line (inr want) = inl (inr want)
 
 -- A run that is kept

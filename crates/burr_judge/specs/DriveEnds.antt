@@ -62,12 +62,12 @@ DriveTextEnds left text plan = ReadsIfAccepted left
 abbrev pub since : Option (List ℕ) → Streams → Streams
 since taken s = record s { taken_old = taken }
 
--- The drive breaks off, as this line tells: the sink failed while it was told that the run is ready;
--- or after that the dialogue broke off.
+-- The drive breaks off, as this line tells: the sink failed while it was told that the run is ready, and no
+-- command was read; or after that the dialogue broke off.
 abbrev pub LedBreaks : Streams → List ℕ → List ℕ → Judged → List ℕ → Type 0
 LedBreaks s text bytes j line =
     ((line ≡ output_failed) × HoldsFront s.taken_old s.taken_new (ready_text text bytes)
-    × (s.write_failed ≡ true))
+    × (s.write_failed ≡ true) × (s.left_new ≡ s.left_old))
     ⊎ ((taken : Option (List ℕ)) × Appends s.taken_old taken (ready_text text bytes)
     × ((fault : BenchFault) × (line ≡ complaint_of fault)
     × ((old new : Driving) × IsReady j old

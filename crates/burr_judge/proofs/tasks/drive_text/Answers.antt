@@ -28,7 +28,7 @@ pub returns-in_err-put_ready : goal.returns-in_err-put_ready
 returns-in_err-put_ready g c =
     unread (left_by g.R.Source c.args.source.now c.args.source.now) refl
     (on_plan c.in_ok-assembly.ensures.ok c.in_ok-bytes.ensures.ok c.deref-lent.ensures.value c.in_ok-container.ensures (on_accepted (rw c.in_ok-tables.ensures at c.in_ok-accepted.ensures.ok) c.in_ok-accepted.ensures.accepted
-    (begin_stops g.R.Source c.args.source.now c.args.source.now g.W.Sink c.args.sink.now c.put_ready.new.sink c.args.text.now c.deref-lent.result.now c.in_ok-accepted.accepted.judged c.in_err-put_ready.ensures.err c.from_residual-in_err-put_ready.ensures.1)))
+    (begin_stops g.R.Source c.args.source.now g.W.Sink c.args.sink.now c.put_ready.new.sink c.args.text.now c.deref-lent.result.now c.in_ok-accepted.accepted.judged c.in_err-put_ready.ensures.err c.from_residual-in_err-put_ready.ensures.1)))
 
 pub returns-in_err-answer_commands : goal.returns-in_err-answer_commands
 returns-in_err-answer_commands g c =
