@@ -17,7 +17,7 @@ IsEitherTooLong first second = IsTooLong first ⊎ IsTooLong second
 abbrev pub IsAnyTooLong : List ℕ → List ℕ → List ℕ → Type 0
 IsAnyTooLong first second third = IsTooLong first ⊎ IsEitherTooLong second third
 
--- What the caller's buffer held before and holds after a call, the size that was told, and the number
+-- What the caller's buffer held before and holds after a call, the size that was set, and the number
 -- of its status.
 pub record Call : Type 0 where
   pub old : List ℕ
@@ -28,7 +28,7 @@ pub record Call : Type 0 where
 abbrev pub call : List ℕ → List ℕ → ℕ → ℕ → Call
 call old new size code = record { old = old; new = new; size = size; code = code }
 
--- the buffer holds as much of the bytes as it takes, and else what it held; their number is told
+-- the buffer holds as much of the bytes as it takes, and else what it held; their number is set
 pub record Gives (bytes : List ℕ) (status : Status) (c : Call) : Type 0 where
   pub buffer : c.new ≡ take (length c.old) bytes ++ drop (length bytes) c.old
   pub size : c.size ≡ length bytes

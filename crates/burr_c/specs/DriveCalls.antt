@@ -1,4 +1,4 @@
--- What a program in C is told of a drive, and what its calls come to.
+-- What a program in C gets of a drive, and how its calls end.
 use Rattle.std.specs.Prelude.{◌≡◌, ◌≢◌, ◌⊎◌, ◌<◌, ◌≤◌, ℕ, ℤ, pos, negsuc, List, Bool, true, false, Option, None, Some, Result, Ok, Err}
 use Rattle.burr_voxels.specs.Grid.{number_of}
 use Rattle.burr_state.specs.Views.Benches.{setup_of}
@@ -58,7 +58,7 @@ code_of Waiting = 5
 code_of Ended = 6
 code_of Closed = 7
 
--- what a call came to at a halt
+-- how a call ends at a halt
 abbrev pub halted : Halt → DriveStatus
 halted (Asks question) = Waiting
 halted (Ends steps) = Ended
@@ -81,26 +81,26 @@ abbrev pub told : ToldMove → ToldMove → ToldHalt → ToldHalt → ℕ → To
 told old_move move old_halt halt code =
     record { old_move = old_move; move = move; old_halt = old_halt; halt = halt; code = code }
 
--- no drive is open: nothing is told, and what is open is as it was
+-- no drive is open: nothing is given, and what is open is as it was
 abbrev pub IsClosed : Option KeptRun → Option KeptRun → Told → Type 0
 IsClosed old new t =
     (new ≡ old) × (t.move ≡ t.old_move) × (t.halt ≡ t.old_halt) × (t.code ≡ code_of Closed)
 
--- the next move is told, or why there is no next move
+-- the next move is given, or why there is no next move
 abbrev pub TellsNext : Result Move Halt → Told → Type 0
 TellsNext (Ok move) t =
     (t.move ≡ told_move move) × (t.halt ≡ t.old_halt) × (t.code ≡ code_of Done)
 TellsNext (Err halt) t =
     (t.move ≡ t.old_move) × (t.halt ≡ told_halt halt) × (t.code ≡ code_of (halted halt))
 
--- the drive that is open makes its next move and tells it, or tells why it has no next move
+-- the drive that is open makes its next move and gives it, or gives why it has no next move
 abbrev pub NextComes : Option KeptRun → Option KeptRun → Told → Type 0
 NextComes None new t = IsClosed None new t
 NextComes (Some (Stepper s)) new t = IsClosed (Some (Stepper s)) new t
 NextComes (Some (Drive old)) new t =
     (d : Driving) × (next : Result Move Halt) × (new ≡ Some (Drive d)) × MovesOn old next d × TellsNext next t
 
--- that the move was come to is told by the number alone; else why not
+-- the number alone says that the move was reached; else it is said why not
 abbrev pub TellsArrival : Result (Unit {0}) Halt → ToldHalt → ToldHalt → ℕ → Type 0
 TellsArrival (Ok there) old halt code = (halt ≡ old) × (code ≡ code_of Done)
 TellsArrival (Err why) old halt code = (halt ≡ told_halt why) × (code ≡ code_of (halted why))

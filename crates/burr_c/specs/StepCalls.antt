@@ -1,4 +1,4 @@
--- What the calls of a stepper that a program in C keeps come to.
+-- What the calls of a stepper do that a program in C keeps.
 use Rattle.std.specs.Prelude.{◌≡◌, ◌⊎◌, ℕ, List, [], Bool, Option, None, Some}
 use Rattle.burr_step.specs.Views.Stepping.{Stepping, IsFresh}
 use Rattle.burr_judge.specs.declared.status.Status.TheVariants as statuses

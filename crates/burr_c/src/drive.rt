@@ -63,8 +63,8 @@ fn open(
     Ok(printed)
 }
 
-/// Makes the next move, and tells it whole: 0. Or tells why there is no next move, and changes
-/// nothing: 5 where the run waits for an answer, 6 where it has ended. 7 where no drive is open.
+/// Makes the next move, and gives it whole: 0. Or gives why there is no next move, and changes
+/// nothing: 5 if the run waits for an answer, 6 if it has ended. 7 if no drive is open.
 #[unsafe(no_mangle)]
 pub extern "C" fn burr_drive_next(
     alloc: Global,
@@ -95,9 +95,9 @@ pub extern "C" fn burr_drive_next(
     came.code()
 }
 
-/// Goes on without telling the moves, until that of a number is made: 0; or to where the run halts
-/// before, and tells why: 5 or 6. 1 where a move of a greater number was made, and then nothing changes;
-/// 7 where no drive is open.
+/// Goes on without giving the moves, until that of a number is made: 0; or to where the run halts
+/// before, and gives why: 5 or 6. 1 if a move of a greater number was made, and then nothing changes;
+/// 7 if no drive is open.
 #[unsafe(no_mangle)]
 pub extern "C" fn burr_drive_goto(
     alloc: Global,
@@ -161,7 +161,7 @@ pub extern "C" fn burr_drive_close(alloc: Global, run: &mut Handle)
     let _closed = run.take(alloc);
 }
 
-// What a program in C is told of a drive.
+// What a program in C gets of a drive.
 
 /// A whole move: unit steps of one group in one tray along one direction, perhaps with the way out.
 #[repr(C)]
@@ -182,7 +182,7 @@ pub struct ToldMove {
 }
 
 impl ToldMove {
-    /// A move, as it is told.
+    /// A move, as a program in C gets it.
     pub fn of(step: Move) -> ToldMove
         ensures { result ≡ told_move step }
     {
@@ -219,7 +219,7 @@ pub struct ToldHalt {
 }
 
 impl ToldHalt {
-    /// A halt, as it is told.
+    /// A halt, as a program in C gets it.
     pub fn of(halt: Halt) -> ToldHalt
         ensures { result ≡ told_halt halt }
     {
@@ -244,7 +244,7 @@ impl ToldHalt {
     }
 }
 
-/// What a call of a drive came to, as it returns it.
+/// How a call of a drive ended, as it returns it.
 #[derive(Clone, Copy, Debug, PartialEq, Eq)]
 pub enum DriveStatus {
     /// What was asked is done: a move is made, or an answer taken.
@@ -260,7 +260,7 @@ pub enum DriveStatus {
 }
 
 impl DriveStatus {
-    /// What a call came to where the run halted so.
+    /// How a call ended if the run halted so.
     pub fn at(halt: Halt) -> DriveStatus
         ensures { result ≡ halted halt }
     {

@@ -292,8 +292,9 @@ fn is_too_long(bytes: &[u8]) -> bool
     bytes.len() > LIMIT
 }
 
-/// Copies what is printed to the front of the caller's buffer, as far as it goes there, tells how
-/// many bytes are printed, and gives the number of the status. After a fault no byte is printed.
+/// Copies what is printed to the front of the caller's buffer, as far as it goes there, sets the size to
+/// the number of bytes that are printed, and returns the number of the status. After a fault no byte is
+/// printed.
 pub fn give(printed: Result<Printed, CallFault>, buffer: &mut [u8], size: &mut usize) -> u8
     ensures ok { IfOk printed (λ printed. Gives printed.bytes.items printed.status
         (call buffer.old buffer.new size.new result)) }

@@ -160,7 +160,7 @@ fn each_export_gives_more_than_64_kib(rt: HostRuntime) {
     assert!(rt; long.len() > 65_536 && sheet.len() > 65_536 && shown.len() > 65_536);
 }
 
-/// What is told before a call.
+/// What stands there before a call.
 const NO_MOVE: ToldMove = ToldMove {
     number: 0,
     group: 0,
@@ -180,7 +180,7 @@ const NO_HALT: ToldHalt = ToldHalt {
     procedure: 0,
 };
 
-/// Asserts that no drive is open: each call says so and tells nothing.
+/// Asserts that no drive is open: each call says so and gives nothing.
 fn assert_closed(rt: &impl Abort, alloc: Global, drive: &mut Handle) {
     let mut step = NO_MOVE;
     let mut halt = NO_HALT;

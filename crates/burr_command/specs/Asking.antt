@@ -1,7 +1,7 @@
 -- Which words ask for which job. The words of a command line are the program's name, the command's
 -- name and what stands after it: operands, and perhaps a flag and `--`.
-use Rattle.std.specs.Prelude.{◌≡◌, ◌<◌, ◌∷◌, ◌&&◌, ◌||◌, ℕ, List, [], length, Bool, false, if◌then◌else◌, bytes_eq, codes, string_bytes, ⊤}
-use Rattle.std.specs.List.{join_by}
+use Rattle.std.specs.Prelude.{◌≡◌, ◌<◌, ◌∷◌, ◌&&◌, ◌||◌, ◌++◌, ℕ, List, [], length, Bool, not, if◌then◌else◌, bytes_eq, codes, string_bytes, ⊤}
+use Rattle.std.specs.List.{filter, join_by, list_any}
 use Rattle.burr_command.specs.declared.job.Job.{Job}
 use Rattle.burr_command.specs.declared.job.Job.TheVariants as jobs
 use Rattle.burr_command.specs.declared.job.Request.{Request}
@@ -13,19 +13,23 @@ is_flag name word =
     (bytes_eq name (codes "list") && bytes_eq word (codes "--places"))
     || (bytes_eq name (codes "judge") && bytes_eq word (codes "--null"))
 
--- the operands among the words after a command's name: all but its flag up to the first `--`, and
--- all after that
-abbrev pub operands : List ℕ → List (List ℕ) → List (List ℕ)
-operands name [] = []
-operands name (word ∷ rest) =
-    if bytes_eq word (codes "--") then rest
-    else (if is_flag name word then operands name rest else word ∷ operands name rest)
+-- the words before the first `--`, and those after it
+abbrev pub before_hyphens : List (List ℕ) → List (List ℕ)
+before_hyphens [] = []
+before_hyphens (word ∷ rest) = if bytes_eq word (codes "--") then [] else word ∷ before_hyphens rest
 
--- whether its flag stands there, before the first `--`
+abbrev pub after_hyphens : List (List ℕ) → List (List ℕ)
+after_hyphens [] = []
+after_hyphens (word ∷ rest) = if bytes_eq word (codes "--") then rest else after_hyphens rest
+
+-- the operands: the words before the first `--` that are no flag, and all words after it
+abbrev pub operands : List ℕ → List (List ℕ) → List (List ℕ)
+operands name words =
+    filter (λ word. not (is_flag name word)) (before_hyphens words) ++ after_hyphens words
+
+-- whether the flag is one of the words before the first `--`
 abbrev pub is_flagged : List ℕ → List (List ℕ) → Bool
-is_flagged name [] = false
-is_flagged name (word ∷ rest) =
-    if bytes_eq word (codes "--") then false else (is_flag name word || is_flagged name rest)
+is_flagged name words = list_any (is_flag name) (before_hyphens words)
 
 -- the words to explain: all after the command's name, but a `--` before them
 abbrev pub explained : List (List ℕ) → List (List ℕ)

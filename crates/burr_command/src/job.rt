@@ -66,8 +66,8 @@ pub enum Job<'a> {
         assembly: &'a str,
         text: &'a str,
     },
-    /// Runs a plan text with the answers of standard input, without accepting it, and tells what
-    /// holds whenever the run comes to a label.
+    /// Runs a plan text with the answers of standard input, without accepting it, and prints what
+    /// holds at each label that the run reaches.
     Trace {
         assembly: &'a str,
         text: &'a str,

@@ -1,4 +1,4 @@
--- What bytes come to on the way to a plan and an assembly: they are refused, or the plan is used.
+-- Bytes of a plan and an assembly: they are refused, or the plan is used.
 use Rattle.std.specs.Prelude.{◌≡◌, ◌≢◌, ◌⊎◌, ℕ, List, take, IsTrue, codes}
 use Rattle.burr_asm.specs.declared.fault.AsmFault.{AsmFault}
 use Rattle.burr_asm.specs.Rules.Faults.{IsFirstFault}

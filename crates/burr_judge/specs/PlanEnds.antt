@@ -140,7 +140,7 @@ PutsFrontOfEnd sink before after AreEnds =
     (output : List ℕ) × (status : Status) × AreEnds output status
     × FailsWithin sink before after output
 
--- why there is no end, by what is told on standard error: the sink failed; or memory was refused, and
+-- why there is no end, by the line on standard error: the sink failed; or memory was refused, and
 -- nothing was printed
 abbrev pub FailsToEnd : {S : Type 0} → SinkView S → S → S → Ends → List ℕ → Type 0
 FailsToEnd sink before after AreEnds line =
@@ -160,7 +160,7 @@ HoldsFrontOfEnd sink before after AreEnds =
     × HoldsFront (sink.taken before) (sink.taken after) output
     × IsTrue (sink.has_failed after)
 
--- why what is to be printed did not come to this sink whole, by what is told on standard error: it
+-- why this sink did not take all that is to be printed, by the line on standard error: it
 -- failed; or memory was refused, and it was left alone
 abbrev pub StopsBeforeEnd : {S : Type 0} → SinkView S → S → S → Ends → List ℕ → Type 0
 StopsBeforeEnd sink before after AreEnds line =
@@ -169,7 +169,7 @@ StopsBeforeEnd sink before after AreEnds line =
 
 -- How a command ends that may break off
 
--- what is told where a command breaks off, for one that does not
+-- the line of a command that breaks off, for one that never does
 abbrev pub never : List ℕ → Type 0
 never line = ⊥
 
@@ -178,7 +178,7 @@ abbrev pub Stops : {S : Type 0} → SinkView S → S → S → Ends → (List �
 Stops sink before after AreEnds Breaks line =
     FailsToEnd sink before after AreEnds line ⊎ Breaks line
 
--- the sink took what is printed with this status, or a fault is told and it stopped so
+-- the sink took what is printed with this status, or a fault is reported and it stopped so
 abbrev pub Ending : {S : Type 0} → SinkView S → S → S → Ends → (List ℕ → Type 0)
     → Result Status Fault → Type 0
 Ending sink before after AreEnds Breaks r =

@@ -14,7 +14,7 @@ abbrev pub plan_text_refusal : AsmFault → List ℕ
 plan_text_refusal Memory = []
 plan_text_refusal fault = place_line (fault_code fault) (codes "line") (fault_line fault)
 
--- the line of a refusal; or what a run printed that does not come to its end
+-- the line of a refusal; or what a run printed that does not reach its end
 abbrev pub refusal_line : Refused → List ℕ
 refusal_line (refused.Line subject line) = place_line subject.now (codes "line") line
 refusal_line (refused.Overlap line earlier piece) = clash_line line earlier.items piece.items

@@ -54,7 +54,7 @@ StepTextEnds left text bytes = ReadsIfAccepted left
 abbrev pub left_of : Streams → Left
 left_of s = record { old = s.left_old; new = s.left_new; failed = s.read_failed }
 
--- the dialogue on such a run breaks off, as this line tells
+-- the dialogue on such a run breaks off, as this line says
 abbrev pub DialogueBreaks : Streams → Judged → List ℕ → Type 0
 DialogueBreaks s j line =
     (fault : BenchFault) × (line ≡ complaint_of fault)

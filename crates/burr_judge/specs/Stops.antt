@@ -33,14 +33,6 @@ abbrev pub IsFault : List ℕ → Stop → Type 0
 IsFault line (stops.Fault fault) = line_of fault ≡ line
 IsFault line (stops.Refused refused notes) = ⊥
 
--- a fault whose line is one of these
-abbrev pub FaultIsIn : (List ℕ → Type 0) → Stop → Type 0
-FaultIsIn Lines (stops.Fault fault) = Lines (line_of fault)
-FaultIsIn Lines (stops.Refused refused notes) = ⊥
-
-pub record IsFaultIn (Lines : List ℕ → Type 0) (stop : Stop) : Type 0 where
-  pub says : FaultIsIn Lines stop
-
 -- a refusal whose text is one of these, or out of memory
 abbrev pub RefusalIsIn : (List ℕ → Type 0) → Stop → Type 0
 RefusalIsIn Texts (stops.Fault fault) = line_of fault ≡ codes "no memory\n"

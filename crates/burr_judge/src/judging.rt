@@ -18,7 +18,7 @@ use crate::refused::Refused;
 use crate::stop::Stop;
 use burr_assembly::{Assembly, AssemblyFault, piece_name};
 use burr_bench::Checked;
-use burr_blocking::Blocking;
+use burr_blocking::{Blocking, RowTables};
 use burr_container::Container;
 use burr_runs::PlanRefusal;
 use burr_verify::{Accepted, Refusal, accept_counted};
@@ -33,6 +33,16 @@ pub fn read_assembly<'x>(alloc: Global, text: &[u8]) -> Result<Assembly, Stop<'x
         Ok(assembly) => Ok(assembly),
         Err(fault) => Err(Stop::from(refused_text(alloc, text, fault)?)),
     }
+}
+
+/// Reads an assembly's text, and makes the tables of its assembly, which they keep.
+pub fn read_tables<'x>(alloc: Global, text: &[u8]) -> Result<RowTables<'static>, Stop<'x>>
+    ensures ok { IfOk result (λ tables.
+        IsText text.now (⟦<RowTables<'static> as Blocking>⟧.subject tables)) }
+    ensures err { IfErr result (Refuses (RefusesText text.now)) }
+{
+    let assembly = read_assembly(alloc, text)?;
+    Ok(RowTables::owning(alloc, assembly)?)
 }
 
 /// Returns the refusal of an assembly's text by this fault.

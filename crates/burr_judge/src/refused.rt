@@ -21,7 +21,7 @@ pub enum Refused<'x> {
     Container(ContainerFault),
     /// A container's plan, for an assembly.
     Plan(PlanRefusal),
-    /// A run that does not come to its end: what it printed.
+    /// A run that does not reach its end: what it printed.
     Run(Vec<u8>),
 }
 

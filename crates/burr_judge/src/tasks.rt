@@ -1,7 +1,7 @@
 //! The commands on a plan and an assembly: the plan is judged, run with answers, or gone through by lines
 //! of commands, step by step or move by move.
 
-ghost use Rattle.std.specs.Prelude.{◌≡◌, ◌++◌, [], IfErr, IfOk, OnOk, string_bytes};
+ghost use Rattle.std.specs.Prelude.{◌≡◌, ◌++◌, [], IfErr, IfOk, OnErr, OnOk, string_bytes};
 ghost use Rattle.hex.specs.Hex.{encode_lower};
 ghost use Rattle.sha2.specs.Sha256.{sha256};
 ghost use Rattle.burr_container.specs.Views.Containers.{HasPlan};
@@ -10,21 +10,21 @@ ghost use Rattle.burr_io.specs.LineWriter.{lines_view};
 ghost use Rattle.burr_runs.specs.Views.BenchText.{streams};
 ghost use Rattle.burr_step.specs.Views.Driving.{IsReady};
 ghost use Rattle.burr_step.specs.Views.Stepping.{IsFresh};
-ghost use Rattle.burr_judge.specs.DriveEnds.{DriveTextBreaks, DriveTextEnds, FailsToBegin, LeavesWith, ReadyEnds, ready_text};
+ghost use Rattle.burr_judge.specs.DriveEnds.{DriveBreaks, DriveEnds, DriveTextBreaks, DriveTextEnds, FailsInReady, FailsToBegin, LeavesWith, ReadyEnds, ready_line, ready_text};
 ghost use Rattle.burr_judge.specs.OpenEnds.{IsOpened, OpenBreaks, OpenEnds, RefusesToOpen};
 ghost use Rattle.burr_judge.specs.PlanEnds.{CheckEnds, CheckTextEnds, InputEnds, PlanEnds, RunEnds, TryEnds, never};
-ghost use Rattle.burr_judge.specs.StepEnds.{StepTextEnds, StepTextBreaks, left_by};
-ghost use Rattle.burr_judge.specs.Stops.{IsFaultIn, Refuses, ResultOn, done_of};
+ghost use Rattle.burr_judge.specs.StepEnds.{ReadsIfAccepted, StepBreaks, StepEnds, StepTextEnds, StepTextBreaks, left_by};
+ghost use Rattle.burr_judge.specs.Stops.{Refuses, ResultOn, done_of};
 
 use crate::commands::OwnedStepper;
 use crate::dialogue::{LineEnd, answer_commands};
-use crate::judging::{judge_plan, read_assembly, start_plan};
+use crate::judging::{judge_plan, read_tables, start_plan};
 use crate::plan_input::PlanInput;
 use crate::status::Status;
 use crate::stop::Stop;
 use burr_blocking::{Blocking, RowTables};
 use burr_container::Container;
-use burr_io::{LineWriter, Sink, Source, put_words};
+use burr_io::{LineWriter, Sink, Source, WriteFault, put_words};
 use burr_runs::{Observer, put_accepted, read_answers, run_plan, try_observed};
 use burr_step::{Drive, Halt, OwnedDrive, Stepper};
 use sha2::{Digest, Sha256};
@@ -55,9 +55,8 @@ pub fn judge_text<'y, W: Sink>(
     ensures { ResultOn W.Sink sink.old sink.new (PlanEnds task text.now bytes.now answers.now) never
         result }
 {
-    let assembly = read_assembly(alloc, text)?;
+    let tables = read_tables(alloc, text)?;
     let container = Container::parse(bytes)?;
-    let tables = RowTables::build(alloc, &assembly)?;
     match task {
         Task::Check => check_plan(&container, &tables, sink),
         Task::Run => run_accepted(alloc, &container, &tables, answers, sink),
@@ -75,13 +74,8 @@ pub fn check_text<'y, W: Sink>(
 ) -> Result<Status, Stop<'y>>
     ensures { ResultOn W.Sink sink.old sink.new (CheckTextEnds text.now plan.entry) never result }
 {
-    let assembly = read_assembly(alloc, text)?;
-    let bytes = plan.bytes(alloc)?;
-    let container = Container::parse(&bytes)?;
-    let tables = RowTables::build(alloc, &assembly)?;
-    let (accepted, looks) = judge_plan(&container, &tables)?;
-    put_accepted(accepted.cost(), container.header().budget, looks, sink)?;
-    Ok(Status::Done)
+    let tables = read_tables(alloc, text)?;
+    check_input(alloc, &tables, plan, sink)
 }
 
 /// Judges a plan for the assembly of these tables, and writes the verdict.
@@ -118,16 +112,16 @@ pub fn check_plan<'y, B: Blocking, W: Sink>(
 
 /// Runs a container's plan, if it is accepted, with the answers of a text, and writes the sheet.
 #[inline(never)]
-fn run_accepted<'y, B: Blocking, W: Sink>(
+fn run_accepted<'y, W: Sink>(
     alloc: Global,
     container: &Container<'_>,
-    tables: &B,
+    tables: &RowTables<'_>,
     answers: &[u8],
     sink: &mut W,
 ) -> Result<Status, Stop<'y>>
     requires plan { HasPlan container.now }
     ensures { ResultOn W.Sink sink.old sink.new
-        (RunEnds container.now (B.subject tables.now) answers.now) never result }
+        (RunEnds container.now tables.now.assembly answers.now) never result }
 {
     let (accepted, _looks) = judge_plan(container, tables)?;
     let answers = read_answers(alloc, answers)?;
@@ -171,10 +165,29 @@ pub fn step_text<'y, R: Source, W: Sink, const N: usize>(
         (StepTextBreaks (streams R.Source source.old source.new W.Sink sink.old.sink sink.new.sink)
         text.now bytes.now) result }
 {
-    let assembly = read_assembly(alloc, text)?;
+    let tables = read_tables(alloc, text)?;
     let container = Container::parse(bytes)?;
-    let tables = RowTables::build(alloc, &assembly)?;
-    let (accepted, _looks) = judge_plan(&container, &tables)?;
+    step_plan(alloc, &container, &tables, source, sink)
+}
+
+/// Goes through a container's plan step by step, if it is accepted.
+#[inline(never)]
+fn step_plan<'y, R: Source, W: Sink, const N: usize>(
+    alloc: Global,
+    container: &Container<'_>,
+    tables: &RowTables<'_>,
+    source: &mut R,
+    sink: &mut LineWriter<W, N>,
+) -> Result<Status, Stop<'y>>
+    requires plan { HasPlan container.now }
+    requires fresh { sink.old.held ≡ [] }
+    ensures { ResultOn (lines_view W.Sink) sink.old sink.new
+        (ReadsIfAccepted (left_by R.Source source.old source.new)
+        (StepEnds (left_by R.Source source.old source.new) container.now tables.now.assembly))
+        (StepBreaks (streams R.Source source.old source.new W.Sink sink.old.sink sink.new.sink)
+        container.now tables.now.assembly) result }
+{
+    let (accepted, _looks) = judge_plan(container, tables)?;
     let mut stepper = Stepper::new(alloc, &accepted)?;
     answer_commands(LineEnd::LineFeed, &mut stepper, source, sink)?;
     Ok(Status::Done)
@@ -198,14 +211,35 @@ pub fn drive_text<'y, R: Source, W: Sink, const N: usize>(
         (DriveTextBreaks (streams R.Source source.old source.new W.Sink sink.old.sink sink.new.sink)
         text.now plan.entry) result }
 {
-    let assembly = read_assembly(alloc, text)?;
+    let tables = read_tables(alloc, text)?;
     let bytes = plan.bytes(alloc)?;
-    let lent: &[u8] = &bytes;
-    let container = Container::parse(lent)?;
-    let tables = RowTables::build(alloc, &assembly)?;
-    let (accepted, _looks) = judge_plan(&container, &tables)?;
+    let container = Container::parse(&bytes)?;
+    let digest = digest_of(alloc, text, &bytes)?;
+    drive_plan(&digest, &container, &tables, source, sink)
+}
+
+/// Drives a gripper through a container's plan move by move, if it is accepted. It writes that the run is
+/// ready, with this digest.
+#[inline(never)]
+fn drive_plan<'y, R: Source, W: Sink, const N: usize>(
+    digest: &str,
+    container: &Container<'_>,
+    tables: &RowTables<'_>,
+    source: &mut R,
+    sink: &mut LineWriter<W, N>,
+) -> Result<Status, Stop<'y>>
+    requires plan { HasPlan container.now }
+    requires fresh { sink.old.held ≡ [] }
+    ensures { ResultOn (lines_view W.Sink) sink.old sink.new
+        (ReadsIfAccepted (left_by R.Source source.old source.new)
+        (DriveEnds (left_by R.Source source.old source.new) (ready_line digest.now) container.now
+        tables.now.assembly))
+        (DriveBreaks (streams R.Source source.old source.new W.Sink sink.old.sink sink.new.sink)
+        (ready_line digest.now) container.now tables.now.assembly) result }
+{
+    let (accepted, _looks) = judge_plan(container, tables)?;
     let mut drive = Drive::new(&accepted);
-    put_ready(alloc, text, lent, sink)?;
+    put_ready(digest, sink)?;
     answer_commands(LineEnd::LineFeed, &mut drive, source, sink)?;
     Ok(status_after(&drive))
 }
@@ -226,12 +260,12 @@ pub fn open_drive<'y, W: Sink, const N: usize>(
         bytes.now) (done_of result) }
     ensures opens { IfOk result (IsOpened IsReady text.now bytes.now) }
 {
-    let assembly = read_assembly(alloc, text)?;
+    let tables = read_tables(alloc, text)?;
     let container = Container::parse(bytes)?;
-    let tables = RowTables::build(alloc, &assembly)?;
     let (accepted, _looks) = judge_plan(&container, &tables)?;
     let drive = OwnedDrive::new(alloc, &accepted)?;
-    put_ready(alloc, text, bytes, sink)?;
+    let digest = digest_of(alloc, text, bytes)?;
+    put_ready(&digest, sink)?;
     Ok(drive)
 }
 
@@ -241,31 +275,25 @@ pub fn open_stepper<'y>(alloc: Global, text: &[u8], bytes: &[u8]) -> Result<Owne
     ensures opens { IfOk result (IsOpened IsFresh text.now bytes.now) }
     ensures err { IfErr result (Refuses (RefusesToOpen text.now bytes.now)) }
 {
-    let assembly = read_assembly(alloc, text)?;
+    let tables = read_tables(alloc, text)?;
     let container = Container::parse(bytes)?;
-    let tables = RowTables::build(alloc, &assembly)?;
     let (accepted, _looks) = judge_plan(&container, &tables)?;
     Ok(OwnedStepper::new(alloc, &accepted)?)
 }
 
 /// Writes that a run is ready, with the digest of what it is of, and flushes the line.
-fn put_ready<'y, W: Sink, const N: usize>(
-    alloc: Global,
-    text: &[u8],
-    bytes: &[u8],
+fn put_ready<W: Sink, const N: usize>(
+    digest: &str,
     sink: &mut LineWriter<W, N>,
-) -> Result<(), Stop<'y>>
+) -> Result<(), WriteFault>
     requires fresh { sink.old.held ≡ [] }
     ensures ok { OnOk result
-        (Takes W.Sink sink.old.sink sink.new.sink (ready_text text.now bytes.now)
+        (Takes W.Sink sink.old.sink sink.new.sink (ready_line digest.now)
         × (sink.new.held ≡ [])) }
-    ensures err { IfErr result (IsFaultIn (FailsToBegin W.Sink sink.old sink.new
-        (ready_text text.now bytes.now))) }
+    ensures err { OnErr result (FailsInReady W.Sink sink.old sink.new (ready_line digest.now)) }
 {
-    let digest = digest_of(alloc, text, bytes)?;
     put_words(&[b"ready", digest.as_bytes()], sink)?;
-    sink.flush()?;
-    Ok(())
+    sink.flush()
 }
 
 /// Returns the SHA-256 of two texts, one after the other, in hexadecimal digits.

@@ -1,4 +1,4 @@
--- How the program ends: its status, and what it tells on standard error.
+-- How the program ends: its status, and what it writes to standard error.
 use Rattle.std.specs.Prelude.{◌≡◌, ◌⊎◌, ◌*◌, ℕ, zero, suc, List, [], ◌∷◌, ◌++◌, codes, decimal, Bool, Option, true}
 use Rattle.std.specs.Io.KnownBytes.{Appends}
 use Rattle.burr_text.specs.Words.{text_line}
@@ -55,7 +55,7 @@ TakesAny t text = TakesText t text × (text ≡ [] → TakesNothing t)
 
 -- Without words
 
--- The run on the streams had an outcome, which the status tells, and standard error took nothing.
+-- The run on the streams had an outcome, which the status says, and standard error took nothing.
 abbrev pub HasOutcome : Streams → Taken → ℕ → Outcome → Type 0
 HasOutcome streams errors status outcome =
     Succeeds streams outcome × (status ≡ code_of (status_of outcome)) × TakesNothing errors
@@ -88,7 +88,7 @@ IsRun streams errors status =
 
 -- With words
 
--- the line that tells how many runs were made
+-- the line that says how many runs were made
 abbrev pub runs_line : ℕ → List ℕ
 runs_line count = text_line (codes "frames:" ∷ decimal count ∷ codes "runs" ∷ [])
 
@@ -97,17 +97,17 @@ abbrev pub runs_lines : ℕ → List ℕ
 runs_lines zero = []
 runs_lines (suc hundreds) = runs_lines hundreds ++ runs_line (suc hundreds * 100)
 
--- what a job tells on standard error on its way: nothing, but of `frames` how many runs were made
+-- what a job reports on standard error on its way: nothing, but of `frames` how many runs were made
 abbrev pub IsHowFar : Job → List ℕ → Type 0
 IsHowFar (jobs.Frames assembly text out) told = (hundreds : ℕ) × (told ≡ runs_lines hundreds)
 IsHowFar job told = told ≡ []
 
--- A fault is told after a text: its line, with the status that goes with it.
+-- A fault is reported after a text: its line, with the status that goes with it.
 abbrev pub TellsFault : Taken → List ℕ → ℕ → Fault → Type 0
 TellsFault errors told status fault =
     (status ≡ code_of (status_of_fault fault)) × TakesText errors (told ++ line_of fault)
 
--- standard output took what is printed where it ends so, with this status, and a text is told
+-- standard output took what is printed if it ends so, with this status, and a text is reported
 abbrev pub Prints : Ends → Taken → Taken → List ℕ → ℕ → Type 0
 Prints AreEnds sink errors told status =
     (output : List ℕ) × (ended : Status) × AreEnds output ended
@@ -129,7 +129,7 @@ StopsJob job s line =
     ((line ≡ output_failed) × FailsToPrint (JobEnds (left_of s) job) (sink_of s))
     ⊎ (TakesNothing (sink_of s) × JobFails job line) ⊎ JobBreaks s job line
 
--- a job was done, or stopped with a fault, which is told; and before that, how far it was
+-- a job was done, or stopped with a fault, which is reported; and before that, how far it was
 abbrev pub DoesJob : Streams → Taken → ℕ → Job → Type 0
 DoesJob s errors status job =
     (told : List ℕ) × IsHowFar job told

@@ -10,22 +10,22 @@ use Rattle.burr_program.specs.Ends.{IsHowFar, TakesAny, TakesText, runs_lines, t
 abbrev pub IsReady : {S : Type 0} → SinkView S → Lines S → Type 0
 IsReady sink lines = (lines.held ≡ []) ⊎ IsTrue (sink.has_failed lines.sink)
 
--- a text is told at once
+-- a text is reported at once
 pub record Tells {S : Type 0} (sink : SinkView S) (old new : Lines S) (text : List ℕ) : Type 0 where
   pub takes : TakesText (took_by sink old.sink new.sink) text
   pub ready : IsReady sink new
   pub kept : IsTrue (sink.has_failed old.sink) → new ≡ old
 
--- a text was told so far
+-- a text was reported so far
 pub record HasTold {S : Type 0} (sink : SinkView S) (old new : Lines S)
     (text : List ℕ) : Type 0 where
   pub takes : TakesAny (took_by sink old.sink new.sink) text
   pub ready : IsReady sink new
 
--- how many runs were made is told
+-- how many runs were made is reported
 abbrev pub TellsRuns : {S : Type 0} → SinkView S → Lines S → Lines S → Type 0
 TellsRuns sink old new = (hundreds : ℕ) × HasTold sink old new (runs_lines hundreds)
 
--- a job tells how far it is
+-- a job reports how far it is
 abbrev pub TellsHowFar : {S : Type 0} → SinkView S → Job → Lines S → Lines S → Type 0
 TellsHowFar sink job old new = (told : List ℕ) × IsHowFar job told × HasTold sink old new told

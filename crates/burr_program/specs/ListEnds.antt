@@ -77,7 +77,7 @@ pub record AnswersPair (old : Tally) (line text : List ℕ) (goes_on : Bool) (ne
   pub new_is : new ≡ tallied old status
   pub more : goes_on ≡ true
 
--- for no line memory is asked that is not told in its answer
+-- no line asks for memory but as its answer says
 abbrev pub AsksNothing : Tally → List ℕ → Type 0
 AsksNothing tally line = ⊥
 

@@ -15,11 +15,11 @@ ghost use Rattle.burr_judge.specs.declared.status.Status.TheVariants as statuses
 use crate::files::SourceFile;
 use burr_asm::assemble;
 use burr_assembly::Assembly;
-use burr_blocking::Blocking;
+use burr_blocking::{Blocking, RowTables};
 use burr_container::Container;
 use burr_explain::explanation_of;
 use burr_io::VecSink;
-use burr_judge::{Refused, Status, Stop, judge_plan, read_assembly, try_plan};
+use burr_judge::{Refused, Status, Stop, judge_plan, read_tables, try_plan};
 use burr_lines::Unframed;
 use burr_runs::Observer;
 use burr_verify::{Accepted, Refusal};
@@ -46,13 +46,17 @@ impl<'x> SourceFile<'x> {
     }
 }
 
-/// Reads the assembly's text of a file. A refusal has notes.
-pub fn read_noted<'y>(alloc: Global, drawing: &SourceFile<'_>) -> Result<Assembly, Stop<'y>>
-    ensures ok { IfOk result (IsText drawing.now.bytes.items) }
+/// Reads the assembly's text of a file, and makes the tables of its assembly. A refusal has notes.
+pub fn read_noted<'y>(
+    alloc: Global,
+    drawing: &SourceFile<'_>,
+) -> Result<RowTables<'static>, Stop<'y>>
+    ensures ok { IfOk result (λ tables.
+        IsText drawing.now.bytes.items (⟦<RowTables<'static> as Blocking>⟧.subject tables)) }
     ensures err { IfErr result (Refuses (Noted (RefusesText drawing.now.bytes.items))) }
 {
-    match read_assembly(alloc, drawing.bytes()) {
-        Ok(assembly) => Ok(assembly),
+    match read_tables(alloc, drawing.bytes()) {
+        Ok(tables) => Ok(tables),
         Err(stop) => {
             let notes = reason_of_text(alloc, &stop, drawing)?;
             Err(stop.with_notes(notes))

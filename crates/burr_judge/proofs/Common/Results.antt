@@ -35,10 +35,10 @@ use Rattle.burr_judge.specs.declared.stop.Stop.{Stop}
 use Rattle.burr_judge.specs.declared.stop.Stop.TheVariants as halts
 use Rattle.burr_judge.specs.Faults.{line_of, output_failed}
 use Rattle.burr_judge.specs.Inputs.{AreBytesOf, IsFor, IsRead, RefusesInput, RefusesPlanBytes}
-use Rattle.burr_judge.specs.PlanEnds.{Ends, EndsOn, Ending, PutsEnd, PutsFrontOfEnd, JudgedEnds, plan_refused, plan_accepted, CheckEnds, TryEnds, AnswersEnd, SafeEnds, SheetEnds, IsRefusal, TextEnds, InputBytesEnd, ContainerEnds, TextBreaks, InputBreaks, BytesBreak, JudgedBreaks, never}
+use Rattle.burr_judge.specs.PlanEnds.{Ends, EndsOn, Ending, PutsEnd, PutsFrontOfEnd, JudgedEnds, plan_refused, plan_accepted, CheckEnds, TryEnds, AnswersEnd, SafeEnds, SheetEnds, TextEnds, InputBytesEnd, ContainerEnds, TextBreaks, InputBreaks, BytesBreak, JudgedBreaks, never}
 use Rattle.burr_judge.specs.Refusals.{refusal_text}
 use Rattle.burr_judge.specs.Stops.{ResultOn, IsFault, Misfits, Refuses, RefusesText, IsRefusalReported, IsReported, StopsBy, Reports, RefusesAnswers, RefusesPlanText}
-use Rattle.burr_judge.proofs.Common.Stages.{AreAmong, ending_from}
+use Rattle.burr_judge.proofs.Common.Stages.{AreAmong}
 
 -- the exit of a `?`
 pub comes_stopped : {S : Type 0} (sink : SinkView S) (before after : S) (AreEnds : Ends) (Breaks : List ℕ → Type 0) (r : Result Status Stop) (Is : Stop → Type 0)
@@ -281,11 +281,6 @@ sheet_fails {kept = kept} {a = a} b answers assembly programs (output, outcome, 
 
 -- The whole way to a plan and its assembly
 
-pub in_plan : {S : Type 0} {sink : SinkView S} {before after : S} {With : Assembly → ContainerView → Ends} {text : List ℕ} {plan : PlanInput} {a : Assembly} {bytes items : List ℕ} {kept : ContainerView} {r : Result Status Stop}
-    → IsText text a → AreBytesOf plan items → bytes ≡ items → IsRead bytes kept → ResultOn sink before after (With a kept) never r
-    → ResultOn sink before after (TextEnds text (λ b. InputBytesEnd plan (λ given. ContainerEnds given (With b)))) never r
-in_plan text are same read comes = in_text text (in_given are same (in_bytes read comes))
-
 pub in_container : {S : Type 0} {sink : SinkView S} {before after : S} {With : Assembly → ContainerView → Ends} {text : List ℕ} {a : Assembly} {bytes : List ℕ} {kept : ContainerView} {r : Result Status Stop}
     → IsText text a → IsRead bytes kept → ResultOn sink before after (With a kept) never r
     → ResultOn sink before after (TextEnds text (λ b. ContainerEnds bytes (With b))) never r
@@ -297,8 +292,3 @@ pub on_container : {S : Type 0} {sink : SinkView S} {before after : S} {With : A
     → IsText text a → IsRead bytes kept → ResultOn sink before after (With a kept) (Broken a kept) r
     → ResultOn sink before after (TextEnds text (λ b. ContainerEnds bytes (With b))) (TextBreaks text (λ b. BytesBreak bytes (Broken b))) r
 on_container text read comes = on_text text (on_bytes read comes)
-
-pub on_plan : {S : Type 0} {sink : SinkView S} {before after : S} {With : Assembly → List ℕ → ContainerView → Ends} {Broken : Assembly → List ℕ → ContainerView → List ℕ → Type 0} {text : List ℕ} {plan : PlanInput} {a : Assembly} {bytes items : List ℕ} {kept : ContainerView} {r : Result Status Stop}
-    → IsText text a → AreBytesOf plan items → bytes ≡ items → IsRead bytes kept → ResultOn sink before after (With a bytes kept) (Broken a bytes kept) r
-    → ResultOn sink before after (TextEnds text (λ b. InputBytesEnd plan (λ given. ContainerEnds given (With b given)))) (TextBreaks text (λ b. InputBreaks plan (λ given. BytesBreak given (Broken b given)))) r
-on_plan text are same read comes = on_text text (on_given are same (on_bytes read comes))

@@ -11,7 +11,7 @@ use crate::done::Done;
 use crate::files::{SourceFile, check_out_not_input, read_file, write_file};
 use crate::notes::{read_noted, reason_of_fault, try_noted, with_meaning};
 use burr_asm::{AsmFault, assemble};
-use burr_blocking::{Blocking, RowTables};
+use burr_blocking::Blocking;
 use burr_container::Container;
 use burr_io::{LineWriter, Sink, put_all, put_words};
 use burr_judge::{Refused, Status, Stop};
@@ -29,7 +29,7 @@ const RUNS_A_LINE: usize = 100;
 /// refusal says why. The number of runs is reported on standard error after each hundred.
 ///
 /// # Errors
-/// A run that does not come to its end is refused by what `try` prints of it, and OUT is left alone.
+/// A run that does not reach its end is refused by what `try` prints of it, and OUT is left alone.
 #[inline(never)]
 pub fn frames<'a, F: Files + AllocGlobal, W: Sink, E: Sink, const N: usize>(
     files: &F,
@@ -97,7 +97,7 @@ fn fill_text<'y, E: Sink, const N: usize>(
     ensures err { IfErr result (Refuses AnyText) }
     ensures told { TellsRuns E.Sink errors.old errors.new }
 {
-    let assembly = read_noted(alloc, drawing)?;
+    let tables = read_noted(alloc, drawing)?;
     let unframed = Unframed::of(alloc, source.bytes())?;
     let blank = unframed.with_blanks()?;
     let bytes = match assemble(alloc, &blank) {
@@ -105,13 +105,12 @@ fn fill_text<'y, E: Sink, const N: usize>(
         Err(fault) => return Err(refuse_own_line(alloc, source, &unframed, fault)?),
     };
     let container = Container::parse(&bytes)?;
-    let tables = RowTables::build(alloc, &assembly)?;
     fill_by_runs(
         alloc, source, &container, &tables, &unframed, &blank, errors,
     )
 }
 
-/// Fills in a plan text by what its runs come to.
+/// Fills in a plan text by what holds in its runs.
 fn fill_by_runs<'y, B: Blocking, E: Sink, const N: usize>(
     alloc: Global,
     source: &SourceFile<'_>,

@@ -8,7 +8,7 @@ use crate::done::Done;
 use crate::files::{SourceFile, check_out_not_input, read_file, write_file};
 use crate::notes::{read_noted, reason_of_plan, refuse_line};
 use burr_assembly::Assembly;
-use burr_blocking::RowTables;
+use burr_blocking::Blocking;
 use burr_container::Container;
 use burr_from_sheet::{LineFault, RefusedDraft, SheetFault, plan_of_sheet};
 use burr_judge::{Refused, Status, Stop};
@@ -55,11 +55,10 @@ fn plan_text<'y>(
         MakesPlanOf drawing.now.bytes.items sheet.now.bytes.items text.items) }
     ensures err { IfErr result (Refuses AnyText) }
 {
-    let assembly = read_noted(alloc, drawing)?;
-    let tables = RowTables::build(alloc, &assembly)?;
+    let tables = read_noted(alloc, drawing)?;
     match plan_of_sheet(alloc, &tables, sheet.bytes()) {
         Ok(text) => Ok(text),
-        Err(fault) => Err(refuse_sheet(alloc, &assembly, sheet, fault)?),
+        Err(fault) => Err(refuse_sheet(alloc, tables.assembly(), sheet, fault)?),
     }
 }
 

@@ -12,7 +12,7 @@ use crate::done::Done;
 use crate::files::{SourceFile, read_file};
 use crate::notes::{assemble_noted, read_noted, try_noted};
 use burr_asm::{AsmFault, assemble};
-use burr_blocking::{Blocking, RowTables};
+use burr_blocking::Blocking;
 use burr_container::Container;
 use burr_io::{Sink, Source, put_all};
 use burr_judge::{Status, Stop};
@@ -63,10 +63,9 @@ fn run<'a, W: Sink>(
 {
     let unframed = Unframed::of(alloc, source.bytes())?;
     let framed = framed_text(alloc, &unframed, source.bytes())?;
-    let assembly = read_noted(alloc, drawing)?;
+    let tables = read_noted(alloc, drawing)?;
     let bytes = assemble_noted(alloc, source, &framed)?;
     let container = Container::parse(&bytes)?;
-    let tables = RowTables::build(alloc, &assembly)?;
     let (status, sheet, notes) = try_labels(
         alloc, source, &container, &tables, &unframed, &framed, answers,
     )?;

@@ -9,7 +9,6 @@ ghost use Rattle.burr_program.specs.NotedEnds.{NotedEnds};
 use crate::done::Done;
 use crate::files::{SourceFile, read_file};
 use crate::notes::{assemble_noted, judge_noted, read_noted};
-use burr_blocking::RowTables;
 use burr_container::Container;
 use burr_io::Sink;
 use burr_judge::{Status, Stop};
@@ -50,10 +49,9 @@ fn judge<'a, W: Sink>(
     ensures { ResultOn W.Sink sink.old sink.new
         (NotedEnds tasks.Check drawing.now.bytes.items source.now.bytes.items []) never result }
 {
-    let assembly = read_noted(alloc, drawing)?;
+    let tables = read_noted(alloc, drawing)?;
     let bytes = assemble_noted(alloc, source, source.bytes())?;
     let container = Container::parse(&bytes)?;
-    let tables = RowTables::build(alloc, &assembly)?;
     let (accepted, looks) = judge_noted(alloc, source, &container, &tables)?;
     put_accepted(accepted.cost(), container.header().budget, looks, sink)?;
     Ok(Status::Done)
