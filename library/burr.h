@@ -1,7 +1,7 @@
 /* What a program in C calls of burr. docs/LIBRARY.md says how it is built and linked.
 
-   The functions without a body are those of the library libburr_c.a. Nothing compares these
-   declarations with the library's source: they were written by hand to fit it. What stands after
+   The functions without a body are those of the library libburr_c.a. They were written by hand;
+   scripts/check-library compares these declarations with the library's source. What stands after
    them is plain C over these functions, which hands over what is printed line by line. */
 #ifndef BURR_H
 #define BURR_H
