@@ -1,6 +1,8 @@
 mod Dialogues
 mod DriveAnswers
 mod DriveLaws
+mod Readings
+mod AnsweredLines
 pub mod Dialogued
 mod OwnedSteps
 mod MoveWords

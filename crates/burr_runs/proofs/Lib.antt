@@ -7,3 +7,4 @@ pub mod AfterRuns
 pub mod StepByStep
 pub mod WholeInput
 pub mod WorkedRows
+pub mod Shown

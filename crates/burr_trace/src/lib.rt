@@ -6,15 +6,15 @@
 //! - What `Sightings::fill` gives is the plan text of an `Unframed` of burr_lines, but any lines may
 //!   stand in place of a line that ends by the word `auto` (`IsFilledIn` of burr_lines), since
 //!   `Unframed::with` of burr_lines makes it.
-//! - Beyond that it promises nothing but safety. Memory is taken by `Labels::of`, `Arrivals::close`,
-//!   `trace_of`, `Sightings::new` and its `add_run` and `fill`, and by `text`, `note` and `ask` of
-//!   `Questions`; they answer `AllocError` where it is refused.
+//! - `Questions::advance` goes on to the next list of answers: none is left out and none is tried twice
+//!   (`IsNext`), unless after 20,000 lists they begin again (`BeginsAgain`).
+//! - Beyond that it promises nothing but safety. `Labels::of`, `Arrivals::close`, `trace_of`, `new`,
+//!   `add_run` and `fill` of `Sightings`, and `text`, `note` and `ask` of `Questions` allocate; they return
+//!   `AllocError` if memory runs out.
 //!
 //! # Tested only
-//! - No contract says what it tells of each label of a run (`Labels`, `Arrivals`, `Sightings`,
-//!   `trace_of`), or which lists of answers are tried (`Questions`).
-//! - Nor does one say which frames it finds, and so what is put in place of `auto`. So no must-fail
-//!   edit stands in the gate.
+//! - No contract says what the crate reports of each label of a run (`Labels`, `Arrivals`, `Sightings`,
+//!   `trace_of`), or which frames it finds to put in place of `auto`.
 #![tactic(auto)]
 
 mod arrivals;

@@ -1,0 +1,2 @@
+pub mod NextAnswers
+pub mod NextLists
