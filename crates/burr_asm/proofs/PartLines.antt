@@ -5,7 +5,7 @@ use Rattle.std.proofs.lemmas.Bool.{and_parts, leb-true}
 use Rattle.burr_text.specs.Words.{IsCutAt}
 use Rattle.burr_plantext.specs.Rules.Written.{pieces}
 use Rattle.burr_plantext.specs.Rules.Statements.{Statement}
-use Rattle.burr_plantext.specs.Rules.Lines.{Line, PlanLine, ProcLine, LabelLine, CodeLine}
+use Rattle.burr_plantext.specs.Rules.Lines.{Line, CodeLine}
 use Rattle.burr_plantext.specs.Rules.Meaning.{code_size}
 use Rattle.burr_plantext.specs.Rules.Checks.{is_in_range}
 use Rattle.burr_plantext.specs.Rules.Texts.{LineRead, Reads, Unread, Broken, numbered_lines, numbered_from, last_line, is_skipped, first_word, ended_line}
@@ -13,7 +13,6 @@ use Rattle.burr_plantext.proofs.Common.TextLines.{numbered_cut, numbered_last}
 use Rattle.burr_asm.specs.declared.source_maps.PlanPart.{PlanPart}
 use Rattle.burr_asm.specs.declared.source_maps.PlanPart.TheVariants.{Code}
 use Rattle.burr_asm.specs.declared.source_maps.Cursor.{Cursor}
-use Rattle.burr_asm.specs.Rules.SourceMaps.{begins_label, begins_procedure, bytes_in, count_of, is_part, is_row, part_after, parts_after, parts_in, since_label, since_procedure}
 use Rattle.burr_asm.specs.Views.SourceMaps.{at_start, next_part, part_read, IsWithin}
 use Rattle.burr_asm.proofs.ReadLines.{line_ends}
 
@@ -49,44 +48,6 @@ and_on n (Some (part, next)) more = (part, n) ∷ more next
 abbrev pub walk : Cursor → List (ℕ × LineRead) → List (PlanPart × ℕ)
 walk k [] = []
 walk k (line ∷ lines) = and_on line.0 (part_read k line.1) (λ next. walk next lines)
-
--- how far the text was gone over with these lines, the nearest first
-abbrev cursor_after : List Line → Cursor
-cursor_after before = record {
-  procedures = count_of begins_procedure before;
-  labels = count_of begins_label (since_procedure before);
-  rows = count_of is_row (since_label before);
-  pc = bytes_in (since_procedure before);
-}
-
--- the next line, by whether it is a part
-abbrev if_part : List Line → Line → Bool → Option (PlanPart × Cursor)
-if_part before line t = if t then Some (part_after before line, cursor_after (line ∷ before)) else None
-
-next_after : (before : List Line) (line : Line) → next_part (cursor_after before) line ≡ if_part before line (is_part before line)
-next_after before (PlanLine title) = refl
-next_after before (ProcLine head) = refl
-next_after before (LabelLine name) = refl
-next_after before (CodeLine s) = refl
-next_after before line = refl
-
--- what lines are by the cursor, they are by the lines before them
-walk_after : (before : List Line) (lines : List (ℕ × LineRead)) → walk (cursor_after before) lines ≡ parts_after before lines
-walk_after before [] = refl
-walk_after before ((n, Unread word) ∷ lines) = refl
-walk_after before ((n, Broken) ∷ lines) = refl
-walk_after before ((n, Reads line) ∷ lines) =
-    ap (λ (given : Option (PlanPart × Cursor)). and_on n given (λ next. walk next lines)) (next_after before line)
-    ∙ by_test (is_part before line) (walk_after (line ∷ before) lines)
-  where
-    by_test : (t : Bool) → walk (cursor_after (line ∷ before)) lines ≡ parts_after (line ∷ before) lines
-        → and_on n (if_part before line t) (λ next. walk next lines) ≡ (if t then (part_after before line, n) ∷ parts_after (line ∷ before) lines else [])
-    by_test true rest = ap (λ (parts : List (PlanPart × ℕ)). (part_after before line, n) ∷ parts) rest
-    by_test false rest = refl
-
--- so they are the parts of the text
-pub are_parts : (text : List ℕ) (found : List (PlanPart × ℕ)) → found ≡ walk at_start (numbered_lines text) → found ≡ parts_in text
-are_parts text found e = e ∙ walk_after [] (numbered_lines text)
 
 -- What was found so far, and what the lines that are left are, is what all lines of the text are.
 pub record IsFound (text rest : List ℕ) (line : ℕ) (k : Cursor) (found : List (PlanPart × ℕ)) : Type 0 where

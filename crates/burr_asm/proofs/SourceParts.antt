@@ -13,11 +13,11 @@ use Rattle.burr_plantext.specs.Rules.Right.{each_after, all_right, is_block, is_
 use Rattle.burr_plantext.specs.Rules.Texts.{LineRead, Reads, numbered_lines}
 use Rattle.burr_asm.specs.declared.source_maps.PlanPart.{PlanPart}
 use Rattle.burr_asm.specs.declared.source_maps.Cursor.{Cursor}
-use Rattle.burr_asm.specs.Rules.SourceMaps.{rows, code_parts, blocks_parts, procedure_parts, procedures_parts, is_row, row_part, IsSourceMap}
-use Rattle.burr_asm.specs.Views.SourceMaps.{at_start, with_row, next_part, part_read}
+use Rattle.burr_asm.specs.Rules.SourceMaps.{rows, code_parts, blocks_parts, procedure_parts, procedures_parts, IsSourceMap}
+use Rattle.burr_asm.specs.Views.SourceMaps.{at_start, row_part, with_row, next_part, part_read}
 use Rattle.burr_plantext.proofs.Common.CodeSizes.{size_both}
 use Rattle.burr_asm.proofs.StageLabels.{size_more}
-use Rattle.burr_asm.proofs.StagePlaces.{AreRows, no_rows, row_and, frame_rows, exit_rows}
+use Rattle.burr_asm.proofs.StagePlaces.{AreRows, no_rows, row_and, is_row, frame_rows, exit_rows}
 use Rattle.burr_asm.proofs.PartLines.{if_taken, and_on, walk}
 
 -- Each of the lines is one of the parts, in their order.

@@ -1,12 +1,11 @@
 -- Where the lines of a procedure stand, and which of them are lines of code.
-use Rattle.std.proofs.Common.{◌≡◌, ℕ, suc, ◌+◌, true, false, true≢false, List, [], ◌∷◌, ◌++◌, length, map, Option, Some, None, refl, sym, ap, ◌∙◌, arith, append-nil, append_assoc, length-append}
+use Rattle.std.proofs.Common.{◌≡◌, ℕ, suc, ◌+◌, Bool, true, false, true≢false, List, [], ◌∷◌, ◌++◌, length, map, Option, Some, None, refl, sym, ap, ◌∙◌, arith, append-nil, append_assoc, length-append}
 use Rattle.std.specs.List.{flat_map}
 use Rattle.std.proofs.lemmas.List.{map-append, length-map}
 use Rattle.std.proofs.lemmas.Grind.{flat_map-append}
 use Rattle.burr_plantext.specs.Rules.Statements.{Statement}
-use Rattle.burr_plantext.specs.Rules.Lines.{Line, ProcedureWords, ProcLine, ResultLine, LabelLine, SlotLine, GuardLine, StackLine, CostLine, AtLine, CodeLine}
+use Rattle.burr_plantext.specs.Rules.Lines.{Line, ProcedureWords, PlanLine, ProcLine, ResultLine, LabelLine, SlotLine, GuardLine, StackLine, CostLine, AtLine, CodeLine}
 use Rattle.burr_plantext.specs.Rules.Sources.{ExitSource, Conditions, FrameSource, Block, exit_lines, some_exit_lines, condition_lines, frame_lines, block_lines}
-use Rattle.burr_asm.specs.Rules.SourceMaps.{is_row}
 use Rattle.burr_asm.specs.Views.Beginnings.{code_lines, lines_of}
 
 -- Lines of code among lines
@@ -23,6 +22,14 @@ code_lines-append number place next (CodeLine s ∷ xs) ys e =
     (code_lines-append number (suc place) next xs ys (omega (arith, e)))
 code_lines-append number place next (line ∷ xs) ys e =
     code_lines-append number (suc place) next xs ys (omega (arith, e))
+
+-- a line of an exit frame, or of a label's frame
+abbrev pub is_row : Line → Bool
+is_row (PlanLine title) = false
+is_row (ProcLine head) = false
+is_row (LabelLine name) = false
+is_row (CodeLine s) = false
+is_row line = true
 
 pub data AreRows : List Line → Type 0 where
   no_rows : AreRows []

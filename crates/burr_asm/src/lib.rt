@@ -9,9 +9,8 @@
 //! - The listing of a container is assembled to that container and to no other
 //!   (`a_listing_assembles_to_its_container`).
 //! - Of a text that stands for a plan `source_map` gives each part of the plan, in the order of the
-//!   text, with the number of its line (`IsSourceMap`). Of any text it gives the part that each line
-//!   is by the lines before it, up to the first that is no part. It takes memory, and answers
-//!   `AllocError` where that is refused.
+//!   text, with the number of its line (`IsSourceMap`). It takes memory, and answers `AllocError`
+//!   where that is refused.
 //!
 //! # Tested only
 //! - That `assemble` does what is meant is tested by the printed plans and their bytes, and by each

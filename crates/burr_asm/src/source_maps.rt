@@ -3,7 +3,7 @@
 ghost use Rattle.std.specs.Prelude.{◌≡◌, ◌≤◌, ◌^◌, IfOk, MatchOption, None, Some, pred};
 ghost use Rattle.burr_code.specs.declared.limits.TheConstants.{MOST_CODE};
 ghost use Rattle.burr_plantext.specs.Rules.Texts.{ended_line};
-ghost use Rattle.burr_asm.specs.Rules.SourceMaps.{IsSourceMap, parts_in};
+ghost use Rattle.burr_asm.specs.Rules.SourceMaps.{IsSourceMap};
 ghost use Rattle.burr_asm.specs.Views.LineWords.{code_words, line_words};
 ghost use Rattle.burr_asm.specs.Views.SourceMaps.{at_start, next_part, part_read, with_code};
 ghost use Rattle.burr_asm.specs.Views.SourceMaps.{with_label, with_procedure, with_row, IsWithin};
@@ -41,12 +41,10 @@ pub enum PlanPart {
     },
 }
 
-/// Returns the part of a plan that each line of a text is, in their order, with the number of the line,
-/// from 1. It ends before the first line that is of no form, is code out of range, or is more code than
-/// a procedure may have. If the text stands for a plan, these are all parts of that plan.
+/// The parts of the plan that a text stands for, in the order of the text, each with the number of its
+/// line, from 1. Of another text nothing is told.
 pub fn source_map(alloc: Global, text: &[u8]) -> Result<Vec<(PlanPart, usize)>, AllocError>
-    ensures lines { IfOk result (λ found. found.items ≡ parts_in text.now) }
-    ensures plan { IfOk result (λ found. IsSourceMap text.now found.items) }
+    ensures { IfOk result (λ found. IsSourceMap text.now found.items) }
 {
     let mut found = Vec::new(alloc);
     let mut cursor = Cursor::new();

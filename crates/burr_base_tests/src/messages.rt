@@ -17,35 +17,6 @@ fn messages_of_faults(rt: HostRuntime) {
     assert_messages(&rt, rt.alloc(), &OF_PLANS, SAID_OF_PLANS);
 }
 
-/// The text of each fault with a place says the place, also the farthest one.
-#[test]
-fn messages_of_faults_at_other_places(rt: HostRuntime) {
-    for place in &[0, 4102, usize::MAX] {
-        assert_places(&rt, rt.alloc(), *place);
-    }
-}
-
-/// Asserts that the texts of faults with this place are those of others, but for the place.
-fn assert_places(rt: &impl Abort, alloc: Global, place: usize) {
-    let said = said_at(alloc, place).expect(rt, "memory");
-    let wanted = wanted_at(alloc, place).expect(rt, "memory");
-    assert_answer(rt, "places", &said, &wanted);
-}
-
-/// The texts of faults with this place, a line each.
-fn said_at(alloc: Global, place: usize) -> Result<String, AllocError> {
-    let assemblies = messages_of(alloc, &of_assemblies(place))?;
-    let containers = messages_of(alloc, &of_containers(place))?;
-    let plans = messages_of(alloc, &of_plans(place))?;
-    format!(in alloc; "{assemblies}{containers}{plans}")
-}
-
-/// What they have to be.
-fn wanted_at(alloc: Global, place: usize) -> Result<String, AllocError> {
-    let place = format!(in alloc; "{place}")?;
-    SAID_AT.replace(alloc, "@", &place)
-}
-
 /// The text of each fault without a place.
 #[test]
 fn messages_of_faults_without_places(rt: HostRuntime) {
@@ -100,29 +71,6 @@ line 38: piece 31 shares a cell with piece 0 (numbered from 0)
 no memory
 ";
 
-/// The faults of assemblies' texts that have a line.
-fn of_assemblies(line: usize) -> [AssemblyFault; 9] {
-    [
-        AssemblyFault::A1 { line },
-        AssemblyFault::A2 { line },
-        AssemblyFault::A3 { line },
-        AssemblyFault::A4 { line },
-        AssemblyFault::A5 { line },
-        AssemblyFault::A6 { line },
-        AssemblyFault::A7 { line },
-        AssemblyFault::A8 {
-            line,
-            earlier: 9,
-            piece: 10,
-        },
-        AssemblyFault::A8 {
-            line,
-            earlier: 30,
-            piece: 255,
-        },
-    ]
-}
-
 const OF_CONTAINERS: [ContainerFault; 6] = [
     ContainerFault::C1 { at: 69 },
     ContainerFault::C2 { at: 0 },
@@ -141,18 +89,6 @@ at 19: the first label isn't at 0, or the labels don't rise
 at 70: bytes follow the last procedure
 ";
 
-/// The faults of containers.
-fn of_containers(at: usize) -> [ContainerFault; 6] {
-    [
-        ContainerFault::C1 { at },
-        ContainerFault::C2 { at },
-        ContainerFault::C3 { at },
-        ContainerFault::C4 { at },
-        ContainerFault::C5 { at },
-        ContainerFault::C6 { at },
-    ]
-}
-
 const OF_PLANS: [AsmFault; 6] = [
     AsmFault::P1 { line: 2 },
     AsmFault::P2 { line: 18 },
@@ -169,39 +105,4 @@ line 14: a number, a set or a form is out of its range, or not in rising order
 line 4102: one more than a plan may have, or a label where none may stand
 line 3: here the first label of a procedure is missing, or the frame of a label
 no memory
-";
-
-/// The faults of plan texts that have a line.
-fn of_plans(line: usize) -> [AsmFault; 5] {
-    [
-        AsmFault::P1 { line },
-        AsmFault::P2 { line },
-        AsmFault::P3 { line },
-        AsmFault::P4 { line },
-        AsmFault::P5 { line },
-    ]
-}
-
-/// What faults with a place say, which is `@` here.
-const SAID_AT: &str = "\
-line @: no line of this form may stand here, or the text ends too early
-line @: the name is badly formed, or taken already
-line @: the drawing is too large, uneven, or not of 1 to 512 cells
-line @: the orientation is none of the 24
-line @: a coordinate is outside -64..64
-line @: there is no shape of this name
-line @: there are more than 32 shapes or pieces, or the text ends with fewer than 2 pieces
-line @: piece 10 shares a cell with piece 9 (numbered from 0)
-line @: piece 255 shares a cell with piece 30 (numbered from 0)
-at @: the bytes end too early
-at @: the bytes don't begin with `BPLN`
-at @: the version isn't 1 or 2
-at @: a number, or the name, is out of its range
-at @: the first label isn't at 0, or the labels don't rise
-at @: bytes follow the last procedure
-line @: no line of this form may stand here, or the text ends too early
-line @: the name is taken already, or nothing has it
-line @: a number, a set or a form is out of its range, or not in rising order
-line @: one more than a plan may have, or a label where none may stand
-line @: here the first label of a procedure is missing, or the frame of a label
 ";

@@ -154,14 +154,10 @@ impl<'a> PlainCells<'a> {
 }
 
 impl<'a> Blocking for PlainCells<'a> {
-    ghost use Rattle.std.specs.Prelude.{false};
-    ghost use Rattle.burr_voxels.specs.Grid.{origin};
-    ghost use Rattle.burr_blocking.specs.Views.Triangles.{HasFields};
-
     ghost subject = { λ a. a };
 
-    ghost IsPair = { λ a p q pair. (p < length a.pieces) × (p < 256) × (q < length a.pieces)
-        × (q < 256) × HasFields pair p q origin false };
+    ghost IsPair = { λ a p q pair. (pair.earlier ≡ p) × (p < length a.pieces) × (p < 256)
+        × (pair.later ≡ q) × (q < length a.pieces) × (q < 256) };
 
     fn assembly(&self) -> &Assembly {
         self.assembly

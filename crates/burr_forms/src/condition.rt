@@ -1,5 +1,4 @@
 ghost use Rattle.std.specs.Prelude.{◌≡◌, ◌↔◌, ◌≤◌, ◌+◌, ◌^◌, ℕ, IsTrue, List, ℤ, length, MatchBool, ◌<◌, MatchOption};
-ghost use Rattle.burr_forms.specs.declared.limits.TheConstants.{MOST_FORMS, MOST_SYMBOLS};
 ghost use Rattle.burr_forms.specs.Rules.Forms.{Form as FormOf, AllNear, AllSmallForms, values};
 ghost use Rattle.burr_forms.specs.Rules.Conditions.{NoneNegative, at_values, region, Throughout, FailsFirstAt};
 ghost use Rattle.burr_forms.specs.Views.Counting.{LooksUnder, looks_at_values};
@@ -123,11 +122,11 @@ pub fn passes<C: Asking>(
     point: &Point,
     row: &mut FormValues,
 ) -> bool
-    requires many { length (C.wanted (C.subject condition.old)) ≤ MOST_FORMS }
+    requires many { length (C.wanted (C.subject condition.old)) ≤ 120 }
     requires places { length steps.now.items ≡ length (C.wanted (C.subject condition.old)) }
     requires small { AllSmallForms (C.wanted (C.subject condition.old)) }
     requires near { AllNear point.now.items }
-    requires few { length point.now.items ≤ MOST_SYMBOLS }
+    requires few { length point.now.items ≤ 8 }
     requires promised { NoneNegative signs.now.items
         → at_values (C.Promised (C.subject condition.old)) (C.wanted (C.subject condition.old))
         point.now.items }
@@ -200,9 +199,9 @@ pub fn first_failing<C: Condition>(
     guards: &[Form],
     condition: &C,
 ) -> Option<Point>
-    requires few { length ranges.now ≤ MOST_SYMBOLS }
-    requires few_guards { length guards.now ≤ MOST_FORMS }
-    requires few_forms { length (C.asked condition.now) ≤ MOST_FORMS }
+    requires few { length ranges.now ≤ 8 }
+    requires few_guards { length guards.now ≤ 120 }
+    requires few_forms { length (C.asked condition.now) ≤ 120 }
     requires ranges { AreRanges ranges.now }
     requires guards { AllSmallForms guards.now }
     requires forms { AllSmallForms (C.asked condition.now) }
@@ -222,7 +221,7 @@ fn narrowed(
     guards: &[Form],
     forms: &[Form],
 ) -> ArrayVec<(i32, i32), MOST_SYMBOLS>
-    requires few { length ranges.now ≤ MOST_SYMBOLS }
+    requires few { length ranges.now ≤ 8 }
     ensures { AreNarrowRanges (λ k. AllLack k guards.now × AllLack k forms.now)
         ranges.now result.items }
 {
@@ -235,7 +234,7 @@ fn narrowed(
 
 /// The range of a symbol; where no guard and no form has it, its lowest number alone.
 fn narrowed_range(range: (i32, i32), guards: &[Form], forms: &[Form], symbol: usize) -> (i32, i32)
-    requires { symbol < MOST_SYMBOLS }
+    requires { symbol < 8 }
     ensures { IsNarrowRange (AllLack symbol guards.now × AllLack symbol forms.now) range result }
 {
     if all_lack(guards, symbol) && all_lack(forms, symbol) {
@@ -246,7 +245,7 @@ fn narrowed_range(range: (i32, i32), guards: &[Form], forms: &[Form], symbol: us
 
 /// Whether no form has a symbol: its coefficient is 0 in each.
 fn all_lack(forms: &[Form], symbol: usize) -> bool
-    requires { symbol < MOST_SYMBOLS }
+    requires { symbol < 8 }
     ensures { IsTrue result ↔ AllLack symbol forms.now }
 {
     forms.iter().all(|form| form.coefs[symbol] == 0)

@@ -1,5 +1,4 @@
 ghost use Rattle.std.specs.Prelude.{◌≡◌, ◌≤◌, ◌↔◌, IsTrue, length, ◌*ℤ◌, ◌^◌, map, MatchResult};
-ghost use Rattle.burr_forms.specs.declared.limits.TheConstants.{MOST_SYMBOLS};
 ghost use Rattle.burr_forms.specs.Rules.Forms.{value, plus_form, minus_form, substituted, IsSmall, IsSmallForm, AllSmallForms, AllNear, sum_of, times, number, AllSmall};
 ghost use Rattle.burr_forms.specs.Views.Results.{IsFormOf};
 ghost use Rattle.burr_forms.specs.Rules.Points.{AreRanges};
@@ -52,7 +51,7 @@ impl Form {
     pub fn value_at(&self, point: &[i32]) -> i64
         requires small { IsSmallForm self.now }
         requires near { AllNear point.now }
-        requires few { length point.now ≤ MOST_SYMBOLS }
+        requires few { length point.now ≤ 8 }
         ensures { result ≡ value point.now self.now }
     {
         let mut sum = self.constant;
@@ -118,7 +117,7 @@ impl Form {
     /// at most eight ranges; each range holds a number, and only numbers within ±32,767; the form's
     /// own numbers lie within ±2^40.
     pub fn least_in(&self, ranges: &[(i32, i32)]) -> i64
-        requires few { length ranges.now ≤ MOST_SYMBOLS }
+        requires few { length ranges.now ≤ 8 }
         requires ranges { AreRanges ranges.now }
         requires small { IsSmallForm self.now }
         ensures { IsLeastIn ranges.now self.now result }
@@ -129,7 +128,7 @@ impl Form {
 
     /// Its greatest value at a point of a box, under the same conditions.
     pub fn greatest_in(&self, ranges: &[(i32, i32)]) -> i64
-        requires few { length ranges.now ≤ MOST_SYMBOLS }
+        requires few { length ranges.now ≤ 8 }
         requires ranges { AreRanges ranges.now }
         requires small { IsSmallForm self.now }
         ensures { IsGreatestIn ranges.now self.now result }
@@ -141,7 +140,7 @@ impl Form {
 
 /// The point of a box at which the sum of the multiples of these numbers is greatest, or least.
 fn corner(coefs: &[i64; MOST_SYMBOLS], ranges: &[(i32, i32)], is_greatest: bool) -> Point
-    requires { length ranges.now ≤ MOST_SYMBOLS }
+    requires { length ranges.now ≤ 8 }
     ensures { result.items ≡ corner is_greatest coefs.now ranges.now }
 {
     let mut point = ArrayVec::new();

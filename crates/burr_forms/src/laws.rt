@@ -1,5 +1,5 @@
 ghost use Rattle.std.specs.Prelude.{◌≡◌, pos};
-ghost use Rattle.burr_forms.specs.declared.limits.TheConstants.{MOST_BOX_GUARDS, MOST_FORMS, MOST_FORM_NUMBER, MOST_POINTS, MOST_SYMBOLS, MOST_SYMBOL_VALUE};
+ghost use Rattle.burr_forms.specs.declared.limits.TheConstants.{MOST_FORM_NUMBER, MOST_POINTS, MOST_SYMBOL_VALUE};
 ghost use Rattle.burr_forms.specs.Laws.PointLaws.{OneListOfPoints, SizeCountsPoints, ThePointsAreGiven};
 
 /// The points of a box under guards are listed each once, rising, the first symbol slowest, and
@@ -12,13 +12,9 @@ pub fn the_points_are_given()
 {}
 
 /// A number of a form is at most 2^40 either way, a value of a symbol at most 32,767 either way,
-/// and a box of the symbols of a state has at most 4,096 points. A form has at most 8 symbols, a box
-/// at most 8 guards of its own, and a condition asks for at most 120 forms.
+/// and a box of the symbols of a state has at most 4,096 points.
 pub fn the_limits_are_these()
     ensures form_numbers { MOST_FORM_NUMBER ≡ pos 1099511627776 }
     ensures symbol_values { MOST_SYMBOL_VALUE ≡ 32767 }
     ensures points { MOST_POINTS ≡ 4096 }
-    ensures symbols { MOST_SYMBOLS ≡ 8 }
-    ensures box_guards { MOST_BOX_GUARDS ≡ 8 }
-    ensures forms { MOST_FORMS ≡ 120 }
 {}

@@ -5,8 +5,6 @@
 //! show. Where they lie outside these bounds, nothing is promised of `eval`, `add`, `sub`,
 //! `substitute` and `first_failing`, and no proved caller calls them with such.
 //!
-//! - `is_small` says whether the numbers of a form lie within ±2^40, and `are_near` whether those of
-//!   a point lie within ±32,767, so that a caller can test these conditions.
 //! - `eval` is the value of a form: its constant plus each coefficient times its symbol's value.
 //!   `value_at` asks for the same.
 //! - `add`, `sub` and `substitute` give exactly the sum, the difference, and the form with forms in
@@ -41,7 +39,7 @@ mod points;
 mod searching;
 
 pub use condition::{Asking, Condition, NotNegative, first_failing};
-pub use form::{Form, FormTooLarge, is_small};
+pub use form::{Form, FormTooLarge};
 pub use laws::{the_limits_are_these, the_points_are_given};
-pub use points::{Box8, FormValues, Guards, Point, Points, are_near};
+pub use points::{Box8, FormValues, Guards, Point, Points};
 pub use searching::first_refused;

@@ -1,8 +1,7 @@
 ghost use Rattle.std.specs.Prelude.{◌≡◌, ◌≤◌, ◌<◌, Some, None, length, MatchBool, MatchOption, ◌↔◌, IsTrue};
 ghost use Rattle.std.specs.Iterator.{YieldsFirst, item_count};
-ghost use Rattle.burr_forms.specs.declared.limits.TheConstants.{MOST_FORMS, MOST_SYMBOLS};
 ghost use Rattle.burr_forms.specs.Rules.Points.{points_of, guards_hold, AreGuards, AreRanges, IsRange, IsBox, padded};
-ghost use Rattle.burr_forms.specs.Rules.Forms.{values, AllSmallForms, AllNear, IsNear};
+ghost use Rattle.burr_forms.specs.Rules.Forms.{values, AllSmallForms, AllNear};
 ghost use Rattle.burr_forms.specs.Views.Rising.{following, lows};
 ghost use Rattle.burr_forms.specs.Views.Searching.{steps_of, AllBounded, sums, IsRaised, IsAfter};
 
@@ -74,23 +73,9 @@ pub type Point = ArrayVec<i32, MOST_SYMBOLS>;
 /// of each, three for each of 32 pieces, and its cost.
 pub type FormValues = ArrayVec<i64, MOST_FORMS>;
 
-/// Whether each number of a point lies within ±32,767.
-pub fn are_near(point: &[i32]) -> bool
-    ensures { IsTrue result ↔ AllNear point.now }
-{
-    point.iter().all(|number| is_near(*number))
-}
-
-/// Whether a number lies within ±32,767.
-fn is_near(number: i32) -> bool
-    ensures { IsTrue result ↔ IsNear number }
-{
-    number.unsigned_abs() <= u32::from(MOST_SYMBOL_VALUE)
-}
-
 /// The lowest point of a box: the lowest number of each range.
 pub fn lowest_point(ranges: &[(i32, i32)]) -> Point
-    requires few { length ranges.now ≤ MOST_SYMBOLS }
+    requires few { length ranges.now ≤ 8 }
     ensures { result.items ≡ lows ranges.now }
 {
     let mut point = ArrayVec::new();
@@ -102,8 +87,8 @@ pub fn lowest_point(ranges: &[(i32, i32)]) -> Point
 
 /// How far the value of each form goes as a symbol goes one up.
 pub fn steps_along(forms: &[Form], symbol: usize) -> FormValues
-    requires many { length forms.now ≤ MOST_FORMS }
-    requires symbol { symbol < MOST_SYMBOLS }
+    requires many { length forms.now ≤ 120 }
+    requires symbol { symbol < 8 }
     ensures { result.items ≡ steps_of symbol forms.now }
 {
     let mut steps = ArrayVec::new();
@@ -147,11 +132,11 @@ pub fn advance(ranges: &[(i32, i32)], point: &mut [i32]) -> Option<usize>
 /// Brings the values of forms to a point: they are carried on from the point before it, with these
 /// steps, or evaluated where none are kept.
 pub fn bring(row: &mut FormValues, forms: &[Form], steps: &FormValues, point: &Point)
-    requires many { length forms.now ≤ MOST_FORMS }
+    requires many { length forms.now ≤ 120 }
     requires places { length steps.now.items ≡ length forms.now }
     requires small { AllSmallForms forms.now }
     requires near { AllNear point.now.items }
-    requires few { length point.now.items ≤ MOST_SYMBOLS }
+    requires few { length point.now.items ≤ 8 }
     requires after { IsAfter steps.now.items forms.now point.now.items row.old.items }
     ensures { row.new.items ≡ values point.now.items forms.now }
 {

@@ -1,5 +1,4 @@
 ghost use Rattle.std.specs.Prelude.{◌≡◌, ◌↔◌, ◌≤◌, ◌+◌, ◌*◌, ◌^◌, IsTrue, length, MatchOption};
-ghost use Rattle.burr_forms.specs.declared.limits.TheConstants.{MOST_FORMS, MOST_SYMBOLS};
 ghost use Rattle.burr_forms.specs.Views.Counting.{Counted, looks_at_values};
 ghost use Rattle.burr_forms.specs.Views.Rising.{count_in};
 ghost use Rattle.burr_forms.specs.Rules.Forms.{AllSmallForms, IsSmallForm, values};
@@ -21,9 +20,9 @@ pub fn first_refused<C: Asking>(
     guards: &[Form],
     condition: &mut C,
 ) -> Option<Point>
-    requires few { length ranges.now ≤ MOST_SYMBOLS }
-    requires few_guards { length guards.now ≤ MOST_FORMS }
-    requires few_forms { length (C.wanted (C.subject condition.old)) ≤ MOST_FORMS }
+    requires few { length ranges.now ≤ 8 }
+    requires few_guards { length guards.now ≤ 120 }
+    requires few_forms { length (C.wanted (C.subject condition.old)) ≤ 120 }
     requires ranges { AreRanges ranges.now }
     requires guards { AllSmallForms guards.now }
     requires forms { AllSmallForms (C.wanted (C.subject condition.old)) }
@@ -72,7 +71,7 @@ fn cutting_guards<'a>(
     guards: &'a [Form],
     room: &'a mut ArrayVec<Form, MOST_BOX_GUARDS>,
 ) -> &'a [Form]
-    requires few { length ranges.now ≤ MOST_SYMBOLS }
+    requires few { length ranges.now ≤ 8 }
     requires ranges { AreRanges ranges.now }
     requires guards { AllSmallForms guards.now }
     ensures alike { HoldAlike ranges.now guards.now result.now }
@@ -93,7 +92,7 @@ fn cutting_guards<'a>(
 
 /// Whether a form is negative at a point of a box, guards not counted.
 fn is_negative_in(ranges: &[(i32, i32)], form: &Form) -> bool
-    requires few { length ranges.now ≤ MOST_SYMBOLS }
+    requires few { length ranges.now ≤ 8 }
     requires ranges { AreRanges ranges.now }
     requires small { IsSmallForm form.now }
     ensures { IsTrue result ↔ IsNegativeIn ranges.now form.now }

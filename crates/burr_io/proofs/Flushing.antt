@@ -1,10 +1,10 @@
 -- What is handed on of bytes that were held back.
-use Rattle.std.proofs.Common.{◌≡◌, ◌≢◌, ◌<◌, ◌≤◌, ℕ, zero, suc, ◌+◌, ◌-◌, false, IsTrue, refl, true≢false, List, [], ◌∷◌, ◌++◌, length, get_or, take, drop, Ok, Err, Result, OnOk, OnErr, arith, ap, sym, subst, ◌∙◌, inr, take-append-drop}
+use Rattle.std.proofs.Common.{◌≡◌, ◌≢◌, ◌<◌, ◌≤◌, ℕ, ◌+◌, ◌-◌, false, List, [], ◌∷◌, ◌++◌, length, get_or, take, drop, Ok, Err, Result, OnOk, OnErr, arith, ap, sym, subst, ◌∙◌, inr, take-append-drop}
 use Rattle.std.proofs.Math.Seq.{take-add, take-append_seam, drop-length}
 use Rattle.std.proofs.lemmas.List.{get_or_default, get_or-drop, length-drop, length-take, length-take-le, drop-drop, take_more, append-nil}
 use Rattle.std.proofs.KnownBytes.{Appends-trans}
 use Rattle.std.specs.Io.KnownBytes.{Appends}
-use Rattle.burr_io.specs.Sink.{SinkView, TakesFront, GoesOn, Puts}
+use Rattle.burr_io.specs.Sink.{SinkView, TakesFront, Puts}
 use Rattle.burr_io.specs.LineWriter.{Flushes, FlushesFront, FlushesLess, FlushesWhole, IsCutAtLines, GoesOf}
 
 -- the first of some bytes, of a front that has them
@@ -18,31 +18,26 @@ take-take n m xs fits less =
 -- one call took some bytes more
 Flushes-more : {S : Type 0} {sink : SinkView S} {old mid new : S} (done n : ℕ) (held mid_held next : List ℕ)
     → Flushes sink old mid done held mid_held → Appends (sink.taken mid) (sink.taken new) (take n mid_held)
-    → sink.has_failed new ≡ false → next ≡ drop n mid_held → 0 < n → Flushes sink old new (done + n) held next
-Flushes-more {sink = sink} {old = old} {mid = mid} {new = new} done n held mid_held next hands took goes rest some = record {
+    → sink.has_failed new ≡ false → next ≡ drop n mid_held → Flushes sink old new (done + n) held next
+Flushes-more {sink = sink} {old = old} {mid = mid} {new = new} done n held mid_held next hands took goes rest = record {
   takes = subst (Appends (sink.taken old) (sink.taken new)) (sym (take-add done n held ∙ ap (λ l. take done held ++ take n l) (sym hands.keeps)))
       (Appends-trans _ _ _ (take done held) (take n mid_held) hands.takes took);
   keeps = rest ∙ ap (drop n) hands.keeps ∙ drop-drop n done held;
   goes_on = λ _. goes;
-  nothing = λ none. absurd (omega arith);
 }
 
 -- in a turn of the loop, where so much is left before it
 pub Flushes-turn : {S : Type 0} {sink : SinkView S} {old mid new : S} (count left n : ℕ) (held mid_held next : List ℕ)
     → left ≤ count → Flushes sink old mid (count - left) held mid_held → n ≤ length (take left mid_held)
     → Appends (sink.taken mid) (sink.taken new) (take n (take left mid_held)) → sink.has_failed new ≡ false → next ≡ drop n mid_held
-    → 0 < left → count ≤ length held → (bytes : List ℕ) → bytes ≡ mid_held → (0 < length (take left bytes) → 0 < n)
     → (left - n ≤ count) × Flushes sink old new (count - (left - n)) held next
-Flushes-turn {sink = sink} {old = old} {mid = mid} {new = new} count left n held mid_held next inside hands bound took goes rest more whole bytes same puts =
+Flushes-turn {sink = sink} {old = old} {mid = mid} {new = new} count left n held mid_held next inside hands bound took goes rest =
     let size = length-take left mid_held in
     let fits : n ≤ length mid_held = omega (arith, size) in
     let less : n ≤ left = omega (arith, size) in
     let sum : (count - left) + n ≡ count - (left - n) = omega arith in
-    let there = length-drop (count - left) held in
-    let kept : length bytes ≡ length (drop (count - left) held) = ap length (same ∙ hands.keeps) in
-    let some : 0 < n = puts (omega (arith, length-take left bytes, there, kept)) in
     let took_whole = subst (Appends (sink.taken mid) (sink.taken new)) (take-take n left mid_held fits less) took in
-    (omega arith, subst (λ k. Flushes sink old new k held next) sum (Flushes-more (count - left) n held mid_held next hands took_whole goes rest some))
+    (omega arith, subst (λ k. Flushes sink old new k held next) sum (Flushes-more (count - left) n held mid_held next hands took_whole goes rest))
 
 -- what went is a front
 pub TakesFront-less : {S : Type 0} {sink : SinkView S} {old new : S} {count : ℕ} {held new_held : List ℕ}
@@ -73,26 +68,13 @@ FlushesWhole-whole count full rest hands goes some = record {
   goes_on = hands.goes_on some;
 }
 
--- a sink that had not failed before has not failed
-pub still_unfailed : {S : Type 0} {sink : SinkView S} {old new : S} (count : ℕ) (held new_held : List ℕ)
-    → Flushes sink old new count held new_held → sink.has_failed old ≡ false → sink.has_failed new ≡ false
-still_unfailed {sink = sink} zero held new_held hands fresh = ap sink.has_failed (hands.nothing refl) ∙ fresh
-still_unfailed (suc n) held new_held hands fresh = hands.goes_on (omega arith)
-
--- the sink goes on after all that was held back
-goes_on_after : {S : Type 0} {sink : SinkView S} {old new : S} (count : ℕ) (held new_held : List ℕ)
-    → count ≡ length held → Flushes sink old new count held new_held → GoesOn sink old new held
-goes_on_after {sink = sink} zero held new_held whole hands = λ failed.
-    (ap (λ n. drop n held) whole ∙ drop-length held, subst (λ s. IsTrue (sink.has_failed s)) (hands.nothing refl) failed)
-goes_on_after (suc n) held new_held whole hands = λ failed. absurd (true≢false (sym failed ∙ hands.goes_on (omega arith)))
-
 -- all that was held back went
 pub Puts-whole : {S A E : Type 0} {sink : SinkView S} {old new : S} (count : ℕ) (held new_held : List ℕ) (a : A)
     → count ≡ length held → Flushes sink old new count held new_held → Puts {E = E} sink old new held (Ok a)
 Puts-whole {sink = sink} {old = old} {new = new} count held new_held a whole hands =
     let rest : drop count held ≡ [] = ap (λ n. drop n held) whole ∙ drop-length held in
     let all : take count held ≡ held = sym (append-nil (take count held)) ∙ ap (λ l. take count held ++ l) (sym rest) ∙ take-append-drop count held in
-    record { ok = subst (Appends (sink.taken old) (sink.taken new)) all hands.takes; goes_on = goes_on_after count held new_held whole hands; err = tt }
+    record { ok = subst (Appends (sink.taken old) (sink.taken new)) all hands.takes; err = tt }
 
 -- nothing is left to be held back
 pub nothing_held : {S : Type 0} {sink : SinkView S} {old new : S} (count : ℕ) (held new_held : List ℕ)
@@ -122,7 +104,7 @@ front_of_less {held = held} less = (
 -- the sink failed
 pub Puts-less : {S A E : Type 0} {sink : SinkView S} {old new : S} (count : ℕ) (held new_held : List ℕ) (e : E)
     → FlushesLess sink old new count held new_held → Puts {A = A} sink old new held (Err e)
-Puts-less count held new_held e less = record { ok = tt; goes_on = tt; err = record { takes = TakesFront-less less; fails = less.fails } }
+Puts-less count held new_held e less = record { ok = tt; err = record { takes = TakesFront-less less; fails = less.fails } }
 
 pub OnOk-whole : {S A E : Type 0} (sink : SinkView S) (old new : S) (r : Result A E) (count : ℕ) (full rest : List ℕ)
     → GoesOf full (take count full) (drop count full) → 0 < count → OnOk r (Flushes sink old new count full rest) → OnOk r (FlushesWhole sink old new full rest)

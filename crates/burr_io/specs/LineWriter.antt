@@ -22,7 +22,6 @@ pub record Flushes {S : Type 0} (sink : SinkView S) (old new : S) (count : ℕ)
   pub takes : Appends (sink.taken old) (sink.taken new) (take count old_held)
   pub keeps : new_held ≡ drop count old_held
   pub goes_on : 0 < count → sink.has_failed new ≡ false
-  pub nothing : count ≡ 0 → new ≡ old
 
 -- the sink failed, and fewer were handed on
 pub record FlushesLess {S : Type 0} (sink : SinkView S) (old new : S) (count : ℕ)

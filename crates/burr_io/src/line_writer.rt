@@ -6,9 +6,9 @@ use arrayvec::ArrayVec;
 use std::marker::Model;
 
 /// A sink over a sink that hands on whole lines. It holds back up to N bytes, in a buffer of its own
-/// and not in memory that it asks for. A `put` that finds the buffer full, even a `put` of no bytes,
-/// first hands on the lines that are whole by then, so that the sink below takes them by one call
-/// where it can; a line longer than N bytes goes in parts. `flush` hands on the rest.
+/// and not in memory that it asks for. Where more come, the lines that are whole by then are handed
+/// on, so that the sink below takes them by one call where it can; a line longer than N bytes goes in
+/// parts. `flush` hands on the rest.
 #[derive(Drop)]
 pub struct LineWriter<W, const N: usize> {
     sink: W,
@@ -27,7 +27,7 @@ impl<W, const N: usize> Model for LineWriter<W, N> {
 }
 
 impl<W: Sink, const N: usize> LineWriter<W, N> {
-    ghost use Rattle.std.specs.Prelude.{◌≡◌, ◌<◌, [], IsErr, IsTrue, OnOk, false};
+    ghost use Rattle.std.specs.Prelude.{◌≡◌, ◌<◌, [], IsErr, IsTrue, OnOk};
     ghost use Rattle.burr_io.specs.Sink.{Puts};
 
     /// A sink over this one, which holds back nothing yet.
@@ -35,7 +35,6 @@ impl<W: Sink, const N: usize> LineWriter<W, N> {
         requires { 0 < N }
         ensures sink { result.sink ≡ sink }
         ensures held { result.held ≡ [] }
-        ensures fresh { ⟦<LineWriter<W, N> as Sink>⟧.has_failed result ≡ W.has_failed sink }
     {
         LineWriter {
             sink,
@@ -56,7 +55,6 @@ impl<W: Sink, const N: usize> LineWriter<W, N> {
     pub fn flush(&mut self) -> Result<(), WriteFault>
         ensures puts { Puts W.Sink self.old.sink self.new.sink self.old.held result }
         ensures nothing { OnOk result (self.new.held ≡ []) }
-        ensures goes_on { OnOk result (W.has_failed self.new.sink ≡ false) }
         ensures kept { FlushesFront W.Sink self.old self.new }
         ensures untouched { IsTrue (W.has_failed self.old.sink) → self.new ≡ self.old }
         ensures for_good { IsTrue (W.has_failed self.old.sink) → IsErr result }
@@ -83,8 +81,8 @@ impl<W: Sink, const N: usize> Sink for LineWriter<W, N> {
 
     ghost has_failed = { λ s. W.has_failed s.sink };
 
-    // The clauses of the trait, and what the sink below takes: whole lines of a full buffer, or
-    // nothing, whether bytes are put or none; where it fails, a front of what was held back.
+    // The clauses of the trait, and what the sink below takes: whole lines of a full buffer, or none;
+    // where it fails, a front of what was held back.
     fn put(&mut self, bytes: &[u8]) -> Result<usize, IoFailed>
         ensures bound { IfOk result (λ n. n ≤ length bytes.now) }
         ensures some { IfOk result (λ n. 0 < length bytes.now → 0 < n) }

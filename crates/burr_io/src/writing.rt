@@ -75,12 +75,11 @@ pub struct VecSink {
 }
 
 impl VecSink {
-    ghost use Rattle.std.specs.Prelude.{◌≡◌, [], Some, false};
+    ghost use Rattle.std.specs.Prelude.{◌≡◌, [], Some};
 
     /// A sink that has taken nothing.
     pub fn new(alloc: Global) -> VecSink
-        ensures taken { ⟦<VecSink as Sink>⟧.taken result ≡ Some [] }
-        ensures fresh { ⟦<VecSink as Sink>⟧.has_failed result ≡ false }
+        ensures { ⟦<VecSink as Sink>⟧.taken result ≡ Some [] }
     {
         VecSink {
             bytes: Vec::new(alloc),
@@ -104,27 +103,13 @@ impl VecSink {
 }
 
 impl Sink for VecSink {
-    ghost use Rattle.std.specs.Prelude.{◌≡◌, ◌≤◌, ◌<◌, ◌+◌, ◌⊎◌, length, is_err, IsErr, IsTrue, IfOk, OnErr, Some, vec_len, vec_capacity};
-    ghost use Rattle.std.specs.Io.KnownBytes.{WriteAppends};
+    ghost use Rattle.std.specs.Prelude.{Some};
 
     ghost taken = { λ kept. Some kept.bytes.items };
 
     ghost has_failed = { λ kept. kept.failed };
 
-    // The clauses of the trait, and that it takes all of the bytes, or fails: if it had failed
-    // before, and then nothing changes, or if the bytes need more memory than it has.
-    fn put(&mut self, bytes: &[u8]) -> Result<usize, IoFailed>
-        ensures bound { IfOk result (λ n. n ≤ length bytes.now) }
-        ensures some { IfOk result (λ n. 0 < length bytes.now → 0 < n) }
-        ensures bytes { let taken = ⟦<VecSink as Sink>⟧.taken in
-            WriteAppends (taken self.old) (taken self.new) result bytes.now }
-        ensures fails { ⟦<VecSink as Sink>⟧.has_failed self.new ≡ is_err result }
-        ensures for_good { IsTrue (⟦<VecSink as Sink>⟧.has_failed self.old) → IsErr result }
-        ensures stays { IsTrue (⟦<VecSink as Sink>⟧.has_failed self.old) → self.new ≡ self.old }
-        ensures whole { IfOk result (λ n. n ≡ length bytes.now) }
-        ensures memory { OnErr result (IsTrue (⟦<VecSink as Sink>⟧.has_failed self.old)
-            ⊎ (vec_capacity self.old.bytes < vec_len self.old.bytes + length bytes.now)) }
-    {
+    fn put(&mut self, bytes: &[u8]) -> Result<usize, IoFailed> {
         if self.failed || self.bytes.extend_from_slice(bytes).is_err() {
             self.failed = true;
             return Err(IoFailed);

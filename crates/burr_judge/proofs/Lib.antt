@@ -1,8 +1,6 @@
 mod Dialogues
 mod DriveAnswers
 mod DriveLaws
-mod Readings
-mod AnsweredLines
 pub mod Dialogued
 mod OwnedSteps
 mod MoveWords

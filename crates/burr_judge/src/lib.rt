@@ -24,9 +24,7 @@ pub use commands::{OwnedStepper, StepFault};
 pub use dialogue::{CommandHandler, LineEnd, MAX_LINE, answer_commands};
 pub use fault::{Fault, put_fault};
 pub use judging::{judge_plan, read_assembly, read_tables};
-pub use laws::{
-    a_dialogue_tells_of_its_run, a_line_has_at_most_8192_bytes, a_text_of_answers_has_one_reading,
-};
+pub use laws::{a_dialogue_tells_of_its_run, a_line_has_at_most_8192_bytes};
 pub use plan_input::PlanInput;
 pub use read_text::ReadText;
 pub use refused::Refused;

@@ -1,21 +1,24 @@
--- Plan texts in which `auto` stands, and texts that have lines in its place.
-use Rattle.std.specs.Prelude.{ℕ, List, [], ◌∷◌, ◌++◌}
-use Rattle.burr_text.specs.Lines.{IsLines}
-use Rattle.burr_text.specs.Words.{IsCutAt}
-use Rattle.burr_lines.specs.Parts.{IsDueAfter}
+-- Plan texts in which `auto` stands, and texts that have something in its place.
+use Rattle.std.specs.Prelude.{◌≡◌, ◌⊎◌, ◌++◌, ℕ, List, [], ◌∷◌, Contains, codes}
+use Rattle.std.specs.List.{flat_map}
 
--- a text that follows these lines, the nearest first, and what is made of it, line by line
-pub data IsFilledAfter : List (List ℕ) → List ℕ → List ℕ → Type 0 where
-  -- all that is left stays as it is
-  stays : {before : List (List ℕ)} {text : List ℕ} → IsFilledAfter before text text
-  -- a line stays as it is
-  keeps : {before : List (List ℕ)} {text line more made : List ℕ} → IsCutAt 10 text line more
-      → IsFilledAfter (line ∷ before) more made → IsFilledAfter before text (line ++ 10 ∷ made)
-  -- any lines stand in place of one with `auto` where a frame or the budget is due
-  fills : {before : List (List ℕ)} {text line lines more made : List ℕ} → IsCutAt 10 text line more
-      → IsDueAfter before line → IsLines lines → IsFilledAfter (line ∷ before) more made
-      → IsFilledAfter before text (lines ++ made)
+-- a line that ends by the word `auto`
+abbrev pub EndsByAuto : List ℕ → Type 0
+EndsByAuto line =
+    (front : List ℕ) × (line ≡ front ++ codes "auto\n") × ¬ Contains front 10
 
--- The text is kept line by line, but for the lines with `auto`.
+-- a stretch of a text, and what stands in its place: the same, or anything for a line that ends by `auto`
+abbrev pub StandsFor : List ℕ × List ℕ → Type 0
+StandsFor stretch = (stretch.1 ≡ stretch.0) ⊎ EndsByAuto stretch.0
+
+-- all of these stretches
+abbrev pub StandFor : List (List ℕ × List ℕ) → Type 0
+StandFor [] = Unit {0}
+StandFor (stretch ∷ more) = StandsFor stretch × StandFor more
+
+-- The text is kept but for lines that end by the word `auto`.
 abbrev pub IsFilledIn : List ℕ → List ℕ → Type 0
-IsFilledIn text made = IsFilledAfter [] text made
+IsFilledIn text made =
+    (stretches : List (List ℕ × List ℕ)) × StandFor stretches
+    × (text ≡ flat_map (λ (stretch : List ℕ × List ℕ). stretch.0) stretches)
+    × (made ≡ flat_map (λ (stretch : List ℕ × List ℕ). stretch.1) stretches)

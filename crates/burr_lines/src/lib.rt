@@ -5,23 +5,21 @@
 //! - `lines_of` gives the lines of a text with their numbers from 1 on, `numbered_line` one of them, `word` of
 //!   `Line` one of its words, and `number_in` the number of 0 to 255 that a word tells, or 0 where it tells
 //!   none, as `specs/TextLines.antt` has lines and words.
-//! - `Unframed::of` takes any plan text. Something is due in two kinds of lines (`IsDueAfter`): a line `auto`, if
-//!   the nearest line before it opens a procedure or a label, where empty lines and comments do not count; and the
-//!   line of the plan, if `auto` is its last word. `parts` returns the lines with what is due in each
-//!   (`IsMadeOf`): the budget, the exit frame of the procedure of a number with its results, or the frame of the
-//!   label of a number (`IsDueIn`). `has_auto_at` returns whether something is due in the line of a number, from 1
-//!   on.
-//! - `with` puts each text that it is given in place of the line of its place, if something is due there, and
-//!   keeps all other lines (`IsFilledBy`). A line feed follows a text that has none at its end. So `with` and
-//!   `with_blanks` return the plan text line by line, with whole lines in place of those where something is due
-//!   (`IsFilledIn`).
+//! - `Unframed::of` takes a plan text as it is. Something is due in a line `auto` after the line that opens
+//!   a procedure or a label, where nothing but empty lines and comments stand between, and in a line that
+//!   starts by `plan` and ends by the word `auto` (`IsDueAfter`). `has_auto_at` tells where, and `parts` gives
+//!   the lines, with something due in just these (`IsMadeOf`).
+//! - `with` puts each text that it is given in place of the line of its place, where something is due there,
+//!   and keeps all else (`IsFilledBy`). So what it and `with_blanks` give is the plan text, but any lines may
+//!   stand in place of a line that ends by the word `auto` (`IsFilledIn`).
 //! - Beyond that it promises nothing but safety. Lines are looked up in `source_map` of burr_asm.
 //!   Memory is taken by `lines_of`, by `PlanLines::of` and `with`, by `Report::into_text`, and by `of`,
 //!   `with`, `with_blanks` and `parts_of` of `Unframed`; they answer `AllocError` where it is refused.
 //!
 //! # Tested only
-//! - No contract says which line says what (`PlanLines`), which frames say nothing (`with_blanks`), what a plan
-//!   has at a place of its code (`PlanText`), or what is added to a text (`Shown`, `Report`).
+//! - No contract says which line says what (`PlanLines`), the procedure or label that a due frame belongs to,
+//!   and which frames say nothing (`Unframed`), what a plan has at a place of its code (`PlanText`), or what is
+//!   added to a text (`Shown`, `Report`).
 #![tactic(auto)]
 
 mod lines;

@@ -1,10 +1,9 @@
 //! A plan text in which `auto` stands in place of frames, and texts that have something in its place.
 
-ghost use Rattle.std.specs.Prelude.{◌≡◌, ◌↔◌, ◌++◌, ◌∷◌, ◌<◌, ◌^◌, ℕ, List, IfOk, IfSome, IsSome, IsTrue};
+ghost use Rattle.std.specs.Prelude.{◌≡◌, ◌↔◌, ◌++◌, ◌∷◌, ℕ, List, IfOk, IsSome, IsTrue};
 ghost use Rattle.std.specs.Option.{option_copied};
-ghost use Rattle.burr_text.specs.Lines.{IsLines};
 ghost use Rattle.burr_lines.specs.FilledTexts.{IsFilledIn};
-ghost use Rattle.burr_lines.specs.Parts.{AreCounted, BeginsBy, FrameIsDue, HasAutoAt, IsDueAfter, IsDueIn, IsFilledBy, IsFrameAfter, IsMadeOf, IsPlanLine, Opens, OpensFrame, as_lines, in_place, line_of, own_line};
+ghost use Rattle.burr_lines.specs.Parts.{BeginsBy, FrameIsDue, HasAutoAt, IsDueAfter, IsFilledBy, IsMadeOf, OpensFrame, in_place, line_of, own_line};
 
 use crate::lines::Line;
 use crate::plan_text::{Report, Shown};
@@ -42,14 +41,15 @@ impl Part<'_> {
         text.add_words(format_args!("{front}{budget}\n"));
     }
 
-    /// Adds the line, or the lines that are given for it where something is due.
+    /// Adds the line, or what is given for it where something is due.
     fn add_to(&self, fill: Option<&Option<String>>, made: &mut Vec<u8>) -> Result<(), AllocError>
         ensures { IfOk result (λ _done. made.new.items
             ≡ made.old.items ++ in_place (own_line self.now) self.now.due (option_copied fill.entry)) }
     {
         if self.due.is_some() {
             if let Some(Some(fill)) = fill {
-                return add_lines(fill.as_bytes(), made);
+                made.extend_from_slice(fill.as_bytes())?;
+                return Ok(());
             }
         }
         made.extend_from_slice(self.line)?;
@@ -82,12 +82,9 @@ struct Heading {
 impl Heading {
     /// What the next line is.
     fn part_of<'a>(&mut self, line: &'a [u8]) -> Part<'a>
-        requires { (self.old.procedures < 2 ^ 63) × (self.old.labels < 2 ^ 63) }
         ensures own { result.line.now ≡ line.now }
         ensures due { (before : List (List ℕ)) → (IsSome self.old.due ↔ FrameIsDue before)
             → (IsSome result.due ↔ IsDueAfter before (line_of result)) × (IsSome self.new.due ↔ FrameIsDue (line_of result ∷ before)) }
-        ensures which { (before : List (List ℕ)) → AreCounted before self.old → IfSome self.old.due (IsFrameAfter before)
-            → IfSome result.due (IsDueIn before (line_of result)) × AreCounted (line_of result ∷ before) self.new × IfSome self.new.due (IsFrameAfter (line_of result ∷ before)) }
     {
         Part {
             line,
@@ -97,11 +94,8 @@ impl Heading {
 
     /// What is due where the next line ends by `auto`.
     fn due_at(&mut self, line: &[u8]) -> Option<Due>
-        requires { (self.old.procedures < 2 ^ 63) × (self.old.labels < 2 ^ 63) }
-        ensures due { (before : List (List ℕ)) → (IsSome self.old.due ↔ FrameIsDue before)
+        ensures { (before : List (List ℕ)) → (IsSome self.old.due ↔ FrameIsDue before)
             → (IsSome result ↔ IsDueAfter before line.now) × (IsSome self.new.due ↔ FrameIsDue (line.now ∷ before)) }
-        ensures which { (before : List (List ℕ)) → AreCounted before self.old → IfSome self.old.due (IsFrameAfter before)
-            → IfSome result (IsDueIn before line.now) × AreCounted (line.now ∷ before) self.new × IfSome self.new.due (IsFrameAfter (line.now ∷ before)) }
     {
         if line.is_empty() || line.starts_with(b";") {
             return None;
@@ -111,7 +105,7 @@ impl Heading {
         if line == AUTO {
             return due;
         }
-        if is_plan_line(line) && line.ends_with(b" auto") {
+        if line.starts_with(b"plan") && line.ends_with(b" auto") {
             return Some(Due::Budget);
         }
         None
@@ -119,10 +113,7 @@ impl Heading {
 
     /// The frame that is due after a line that opens one.
     fn opened_by(&mut self, line: &[u8]) -> Option<Due>
-        requires { (self.old.procedures < 2 ^ 63) × (self.old.labels < 2 ^ 63) }
-        ensures some { IsSome result ↔ OpensFrame line.now }
-        ensures which { (before : List (List ℕ)) → AreCounted before self.old
-            → IfSome result (Opens before line.now) × AreCounted (line.now ∷ before) self.new }
+        ensures { IsSome result ↔ OpensFrame line.now }
     {
         let told = Line {
             number: 0,
@@ -130,16 +121,16 @@ impl Heading {
         };
         if begins_by(line, b"proc") {
             let procedure = self.procedures;
-            self.procedures = procedure + 1;
+            self.procedures = procedure.saturating_add(1);
             let results = usize::from(told.number_in(3));
             return Some(Due::Exit { procedure, results });
         }
         if begins_by(line, b"label") {
             let label = self.labels;
-            self.labels = label + 1;
+            self.labels = label.saturating_add(1);
             return Some(Due::Label(label));
         }
-        if is_plan_line(line) {
+        if begins_by(line, b"plan") || begins_by(line, b"plan2") {
             self.pieces = usize::from(told.number_in(2));
         }
         None
@@ -154,31 +145,6 @@ fn begins_by(line: &[u8], word: &[u8]) -> bool
         Some(rest) => rest.is_empty() || rest[0] == b' ',
         None => false,
     }
-}
-
-/// Whether a line is that of the plan, of version 1 or 2.
-fn is_plan_line(line: &[u8]) -> bool
-    ensures { IsTrue result ↔ IsPlanLine line.now }
-{
-    begins_by(line, b"plan") || begins_by(line, b"plan2")
-}
-
-/// Adds a text as whole lines: a line feed follows a last line that has none.
-fn add_lines(text: &[u8], made: &mut Vec<u8>) -> Result<(), AllocError>
-    ensures { IfOk result (λ _done. made.new.items ≡ made.old.items ++ as_lines text.now) }
-{
-    made.extend_from_slice(text)?;
-    if !are_lines(text) {
-        made.push(b'\n')?;
-    }
-    Ok(())
-}
-
-/// Whether a text is whole lines, or nothing.
-fn are_lines(text: &[u8]) -> bool
-    ensures { IsTrue result ↔ IsLines text.now }
-{
-    text.is_empty() || text.ends_with(b"\n")
 }
 
 /// A plan text in which `auto` may stand in place of the budget, of exit frames, and of the frames of
@@ -233,22 +199,18 @@ impl<'a> Unframed<'a> {
         &self.parts
     }
 
-    /// Whether `auto` stands in the line of this number, counted from 1; a number 0 names none.
+    /// Whether `auto` stands in the line of this number, counted from 1.
     pub fn has_auto_at(&self, number: usize) -> bool
         ensures { HasAutoAt self.now number result }
     {
-        let parts = self.parts();
-        if number == 0 {
-            return false;
-        }
-        match parts.get(number - 1) {
+        match self.parts.get(number.saturating_sub(1)) {
             Some(part) => part.due.is_some(),
             None => false,
         }
     }
 
-    /// The text with these in place of its lines, one for each; a line feed is added to one that does not end
-    /// by it. A line stays where none is given, and where nothing is due.
+    /// The text with these in place of its lines, one for each. A line stays where none is given, and
+    /// where nothing is due.
     pub fn with(&self, fills: &[Option<String>]) -> Result<Vec<u8>, AllocError>
         ensures put { IfOk result (λ made. IsFilledBy self.now fills.now made.items) }
         ensures kept { IfOk result (λ made. IsFilledIn self.now made.items) }

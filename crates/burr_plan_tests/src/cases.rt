@@ -103,21 +103,6 @@ fn puts_fronts_to_sinks_that_fail(rt: HostRuntime) {
     assert_tables(&rt, rt.alloc(), How::InFronts, Kind::Run, LIFT_RUNS);
 }
 
-/// The sheet of the first table has 42 bytes.
-#[test]
-fn puts_fronts_to_short_sinks(rt: HostRuntime) {
-    assert_tables(&rt, rt.alloc(), How::ToShortSinks, Kind::Bare, APART);
-    assert_tables(&rt, rt.alloc(), How::ToShortSinks, Kind::Bare, LEVELS);
-    assert_tables(&rt, rt.alloc(), How::ToShortSinks, Kind::Check, LIFT_CHECKS);
-    assert_tables(&rt, rt.alloc(), How::ToShortSinks, Kind::Run, LIFT_RUNS);
-}
-
-#[test]
-fn reads_from_byte_sources(rt: HostRuntime) {
-    assert_tables(&rt, rt.alloc(), How::FromByteSources, Kind::Bare, APART);
-    assert_tables(&rt, rt.alloc(), How::FromByteSources, Kind::Bare, LEVELS);
-}
-
 #[test]
 fn reads_from_sources_that_fail(rt: HostRuntime) {
     assert_tables(&rt, rt.alloc(), How::InPortions, Kind::Bare, APART);

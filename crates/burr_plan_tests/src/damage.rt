@@ -6,7 +6,6 @@ use crate::puts::put_run;
 use crate::tables::bytes_of;
 use burr_blocking::RowTables;
 use burr_container::{Container, ContainerFault};
-use burr_io::VecSink;
 use burr_testing::plans::{DUO, DUO_PLAN};
 use std::alloc::Global;
 use std::process::Abort;
@@ -41,7 +40,7 @@ fn with_byte(rt: &impl Abort, alloc: Global, bytes: &[u8], place: usize, byte: u
 /// How the run of bytes without answers ends, where they are a container, and are accepted.
 fn end_of(alloc: Global, bytes: &[u8], rows: &RowTables<'_>) -> &'static str {
     match Container::parse(bytes) {
-        Ok(container) => put_run(&container, rows, &[], &mut VecSink::new(alloc)),
+        Ok(container) => put_run(&container, rows, &[], &mut Vec::new(alloc)),
         Err(_fault) => "refused",
     }
 }

@@ -1,17 +1,15 @@
 //! A drive by lines of commands: what is put for each, also where sinks fail.
 
 use crate::calls::{assembly_of, container_of, rows_of};
-use crate::largest::{largest_assembly, largest_plan};
 use crate::puts::plan_of;
 use crate::stepper::DRIVES;
-use crate::tables::{How, Kind, bytes_of, lines_of, table_of};
-use crate::verdicts::words_of;
+use crate::tables::{How, Kind, lines_of, table_of};
 use burr_blocking::RowTables;
 use burr_io::Writing;
 use burr_judge::{CommandHandler, OwnedStepper, StepFault};
 use burr_step::{Drive, Halt, OwnedDrive, Stepper};
 use burr_testing::Narrow;
-use burr_verify::{Accepted, accept, verify};
+use burr_verify::{Accepted, accept};
 use std::alloc::Global;
 use std::process::Abort;
 
@@ -55,24 +53,6 @@ fn goes_on_where_it_is_kept(rt: HostRuntime) {
         assert_kept_drive(&rt, rt.alloc(), &accepted);
         assert_kept_stepper(&rt, rt.alloc(), &accepted);
     }
-}
-
-/// The same of an assembly and a plan that have of all that is kept as much as they may.
-#[test]
-fn goes_on_where_as_much_as_may_be_is_kept(rt: HostRuntime) {
-    let text = largest_assembly(rt.alloc()).expect(&rt, "memory");
-    let digits = largest_plan(rt.alloc()).expect(&rt, "memory");
-    let bytes = bytes_of(&rt, rt.alloc(), &digits);
-    let assembly = assembly_of(&rt, rt.alloc(), &text);
-    let rows = rows_of(&rt, rt.alloc(), &assembly);
-    let container = container_of(&rt, &bytes);
-    let said = words_of(rt.alloc(), verify(&container, &rows)).expect(&rt, "memory");
-    assert!(rt; said.as_str() == "accepted", "{said}");
-    let Ok(accepted) = accept(&container, &rows) else {
-        panic!(rt; "refused");
-    };
-    assert_kept_drive(&rt, rt.alloc(), &accepted);
-    assert_kept_stepper(&rt, rt.alloc(), &accepted);
 }
 
 /// Leads both drives to the end, and answers each question by its least number.

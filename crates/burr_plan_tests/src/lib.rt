@@ -15,8 +15,6 @@ mod damage;
 #[cfg(test)]
 mod drive;
 #[cfg(test)]
-mod largest;
-#[cfg(test)]
 mod looks;
 #[cfg(test)]
 mod plans;
@@ -26,8 +24,6 @@ mod puts;
 mod sources;
 #[cfg(test)]
 mod stepper;
-#[cfg(test)]
-mod streams;
 #[cfg(test)]
 mod tables;
 #[cfg(test)]

@@ -2,14 +2,13 @@
 
 use crate::calls::{assembly_of, container_of, rows_of, upgraded};
 use crate::sources::input_of;
-use crate::streams::ShortSink;
 use crate::tables::{How, Kind, Table, bytes_of, edited, lines_of};
 use crate::want::memory_taken;
 use burr_assembly::Assembly;
 use burr_bench::{Checked, Motion};
 use burr_blocking::{Blocking, RowTables};
 use burr_container::Container;
-use burr_io::{Reading, Sink, Source, Writing};
+use burr_io::{Reading, Writing};
 use burr_runs::{BenchFault, Outcome, bench_text, check, read_answers, run_plan, try_plan};
 use burr_sheet::{Closing, Sheet};
 use burr_testing::Narrow;
@@ -42,29 +41,20 @@ fn word_of_fault(fault: BenchFault) -> &'static str {
 }
 
 /// Runs an input's bare code and puts its sheet.
-pub fn put_bare<R: Source, W: Sink>(alloc: Global, source: &mut R, sink: &mut W) -> &'static str {
-    match bench_text(alloc, source, sink) {
+pub fn put_bare<R: Read, W: Write>(alloc: Global, reader: &mut R, writer: &mut W) -> &'static str {
+    match bench_text(alloc, &mut Reading::new(reader), &mut Writing::new(writer)) {
         Ok(outcome) => word_of(outcome),
         Err(fault) => word_of_fault(fault),
     }
 }
 
-/// The same of a reader, for a writer.
-pub fn write_bare<R: Read, W: Write>(
-    alloc: Global,
-    reader: &mut R,
-    writer: &mut W,
-) -> &'static str {
-    put_bare(alloc, &mut Reading::new(reader), &mut Writing::new(writer))
-}
-
 /// Checks a plan and puts the line of it.
-fn put_check<B: Blocking, W: Sink>(
+fn put_check<B: Blocking, W: Write>(
     container: &Container<'_>,
     blocking: &B,
-    sink: &mut W,
+    writer: &mut W,
 ) -> &'static str {
-    match check(container, blocking, sink) {
+    match check(container, blocking, &mut Writing::new(writer)) {
         Ok(true) => "accepted",
         Ok(false) => "refused",
         Err(_) => "Write",
@@ -72,71 +62,59 @@ fn put_check<B: Blocking, W: Sink>(
 }
 
 /// Runs a plan, where it is accepted, and puts its sheet.
-pub fn put_run<B: Blocking, W: Sink>(
+pub fn put_run<B: Blocking, W: Write>(
     container: &Container<'_>,
     blocking: &B,
     answers: &[i32],
-    sink: &mut W,
+    writer: &mut W,
 ) -> &'static str {
     match accept(container, blocking) {
-        Ok(accepted) => put_accepted(&accepted, answers, sink),
+        Ok(accepted) => put_accepted(&accepted, answers, writer),
         Err(_) => "refused",
     }
 }
 
 /// Runs an accepted plan and puts its sheet.
-fn put_accepted<B: Blocking, W: Sink>(
+fn put_accepted<B: Blocking, W: Write>(
     accepted: &Accepted<'_, '_, B>,
     answers: &[i32],
-    sink: &mut W,
+    writer: &mut W,
 ) -> &'static str {
-    match run_plan(accepted, answers, sink) {
+    match run_plan(accepted, answers, &mut Writing::new(writer)) {
         Ok(outcome) => word_of(outcome),
         Err(_) => "Write",
     }
 }
 
 /// Runs a plan on the bench that tests each move, and puts its sheet.
-fn put_tried<B: Blocking, W: Sink>(
+fn put_tried<B: Blocking, W: Write>(
     container: &Container<'_>,
     blocking: &B,
     answers: &[i32],
-    sink: &mut W,
+    writer: &mut W,
 ) -> &'static str {
     let Ok(mut bench) = Checked::start(container, blocking) else {
         return "refused";
     };
-    match try_plan(&mut bench, answers, sink) {
+    match try_plan(&mut bench, answers, &mut Writing::new(writer)) {
         Ok(outcome) => word_of(outcome),
         Err(_) => "Write",
     }
 }
 
 /// Checks, runs or tries a plan.
-fn put_judged<B: Blocking, W: Sink>(
-    table: &Table,
-    container: &Container<'_>,
-    blocking: &B,
-    answers: &[i32],
-    sink: &mut W,
-) -> &'static str {
-    match (table.how, table.kind) {
-        (How::Tried, _) => put_tried(container, blocking, answers, sink),
-        (_, Kind::Run) => put_run(container, blocking, answers, sink),
-        _ => put_check(container, blocking, sink),
-    }
-}
-
-/// The same for a writer.
-fn write_judged<B: Blocking, W: Write>(
+fn put_judged<B: Blocking, W: Write>(
     table: &Table,
     container: &Container<'_>,
     blocking: &B,
     answers: &[i32],
     writer: &mut W,
 ) -> &'static str {
-    let mut sink = Writing::new(writer);
-    put_judged(table, container, blocking, answers, &mut sink)
+    match (table.how, table.kind) {
+        (How::Tried, _) => put_tried(container, blocking, answers, writer),
+        (_, Kind::Run) => put_run(container, blocking, answers, writer),
+        _ => put_check(container, blocking, writer),
+    }
 }
 
 /// The answers of a case; none where it has edits.
@@ -163,12 +141,12 @@ pub fn plan_of(rt: &impl Abort, alloc: Global, table: &Table, given: &str) -> Ve
 }
 
 /// Checks or runs a case's plan.
-fn put_plan<W: Sink>(
+fn put_plan<W: Write>(
     rt: &impl Abort,
     alloc: Global,
     table: &Table,
     given: &str,
-    sink: &mut W,
+    writer: &mut W,
 ) -> &'static str {
     let bytes = plan_of(rt, alloc, table, given);
     let answers = answers_of(rt, alloc, table.kind, given);
@@ -179,24 +157,24 @@ fn put_plan<W: Sink>(
         &container,
         &rows_of(rt, alloc, &assembly),
         &answers,
-        sink,
+        writer,
     )
 }
 
 /// Puts what comes of a case.
-pub fn put<W: Sink>(
+pub fn put<W: Write>(
     rt: &impl Abort,
     alloc: Global,
     table: &Table,
     given: &str,
-    sink: &mut W,
+    writer: &mut W,
 ) -> &'static str {
     match table.kind {
         Kind::Bare => {
             let input = input_of(rt, alloc, table, given);
-            put_bare(alloc, &mut Reading::new(input.as_bytes()), sink)
+            put_bare(alloc, &mut input.as_bytes(), writer)
         }
-        _ => put_plan(rt, alloc, table, given, sink),
+        _ => put_plan(rt, alloc, table, given, writer),
     }
 }
 
@@ -204,7 +182,7 @@ pub fn put<W: Sink>(
 pub fn puts(rt: &impl Abort, alloc: Global, table: &Table, given: &str, wanted: &str) -> bool {
     let (end, text) = wanted.split_once(" | ").expect(rt, "a text");
     let mut written = Vec::new(alloc);
-    let word = put(rt, alloc, table, given, &mut Writing::new(&mut written));
+    let word = put(rt, alloc, table, given, &mut written);
     word == end && written.as_slice() == text.as_bytes()
 }
 
@@ -242,45 +220,7 @@ fn puts_front(
     fault: Option<ErrorKind>,
 ) -> bool {
     let mut writer = Narrow::new(alloc, front.len(), fault);
-    let word = put(rt, alloc, table, given, &mut Writing::new(&mut writer));
-    word == end && writer.taken.as_slice() == front
-}
-
-/// Whether of what a case puts a sink that is no writer has the front that it takes before it fails, by
-/// one byte or two a call.
-pub fn puts_to_short_sinks(
-    rt: &impl Abort,
-    alloc: Global,
-    table: &Table,
-    given: &str,
-    wanted: &str,
-) -> bool {
-    let (end, text) = wanted.split_once(" | ").expect(rt, "a text");
-    for room in 0..=text.len() {
-        let end = if room < text.len() { "Write" } else { end };
-        let front = text.as_bytes().get(..room).expect(rt, "a front");
-        if !puts_to_short_sink(rt, alloc, table, given, (end, front), 1) {
-            return false;
-        }
-        if !puts_to_short_sink(rt, alloc, table, given, (end, front), 2) {
-            return false;
-        }
-    }
-    true
-}
-
-/// Whether a case ends so whose text meets such a sink with room for a front of it.
-fn puts_to_short_sink(
-    rt: &impl Abort,
-    alloc: Global,
-    table: &Table,
-    given: &str,
-    (end, front): (&str, &[u8]),
-    each: usize,
-) -> bool {
-    let mut sink = ShortSink::new(alloc, front.len(), each);
-    let word = put(rt, alloc, table, given, &mut sink);
-    word == end && sink.taken.as_slice() == front && sink.failed() == (end == "Write")
+    put(rt, alloc, table, given, &mut writer) == end && writer.taken.as_slice() == front
 }
 
 /// Whether a case puts this while no memory can be had, or first with ample memory, where all that it
@@ -336,7 +276,7 @@ fn puts_in_place(
 ) -> bool {
     let mut room = [0; 128];
     let mut written = Cursor::new(room.as_mut_slice());
-    let word = write_judged(table, container, rows, answers, &mut written);
+    let word = put_judged(table, container, rows, answers, &mut written);
     let count = written.position() as usize;
     verify(container, rows).is_err() == (end == "refused")
         && word == end

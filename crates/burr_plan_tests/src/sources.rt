@@ -1,9 +1,8 @@
 //! Sources that give a byte a call, that fail, and that give too much.
 
 use crate::puts::put_bare;
-use crate::streams::ByteSource;
 use crate::tables::{Table, edited, lines_of};
-use burr_io::{Reading, Source, Writing};
+use burr_io::Reading;
 use burr_runs::{BenchFault, read_whole};
 use burr_testing::Portions;
 use std::alloc::Global;
@@ -18,24 +17,15 @@ pub fn input_of(rt: &impl Abort, alloc: Global, table: &Table, edits: &str) -> S
 }
 
 /// Whether bare code that comes from a source ends so, and puts this.
-fn ends_so<R: Source>(alloc: Global, source: &mut R, (end, text): (&str, &str)) -> bool {
+fn ends_so(alloc: Global, mut source: Portions<'_>, (end, text): (&str, &str)) -> bool {
     let mut written = Vec::new(alloc);
-    let word = put_bare(alloc, source, &mut Writing::new(&mut written));
+    let word = put_bare(alloc, &mut source, &mut written);
     word == end && written.as_slice() == text.as_bytes()
 }
 
-/// Whether bare code that comes from a reader ends so, and puts this.
-fn reads_so(alloc: Global, mut reader: Portions<'_>, wanted: (&str, &str)) -> bool {
-    ends_so(alloc, &mut Reading::new(&mut reader), wanted)
-}
-
-/// Whether these bytes are read to the end from a source.
-fn is_read_whole<R: Source>(
-    alloc: Global,
-    source: &mut R,
-    bytes: &[u8],
-) -> Result<bool, BenchFault> {
-    let read = read_whole(alloc, source)?;
+/// Whether these bytes are read to the end from a source that gives at most `each` of them a call.
+fn is_read_whole(alloc: Global, bytes: &[u8], each: usize) -> Result<bool, BenchFault> {
+    let read = read_whole(alloc, &mut Reading::new(Portions::new(bytes, each)))?;
     Ok(read.as_slice() == bytes)
 }
 
@@ -51,38 +41,13 @@ pub fn reads_portions(
     let input = input_of(rt, alloc, table, given);
     let bytes = input.as_bytes();
     for made in 0..=bytes.len() {
-        let reader = Portions::failing(bytes, 1, made, ErrorKind::Other);
-        if !reads_so(alloc, reader, ("Read", "")) {
+        let source = Portions::failing(bytes, 1, made, ErrorKind::Other);
+        if !ends_so(alloc, source, ("Read", "")) {
             return false;
         }
     }
     let wanted = wanted.split_once(" | ").expect(rt, "a text");
-    let mut reader = Portions::new(bytes, 1);
-    reads_so(alloc, Portions::new(bytes, 1), wanted)
-        && is_read_whole(alloc, &mut Reading::new(&mut reader), bytes) == Ok(true)
-}
-
-/// Whether this comes of a case's input from a source that is no reader and gives a byte a call, and a
-/// call that fails, from the first to the one that would tell the end, leaves nothing written.
-pub fn reads_bytes(
-    rt: &impl Abort,
-    alloc: Global,
-    table: &Table,
-    given: &str,
-    wanted: &str,
-) -> bool {
-    let input = input_of(rt, alloc, table, given);
-    let bytes = input.as_bytes();
-    for calls in 0..=bytes.len() {
-        let mut source = ByteSource::new(bytes, calls);
-        if !ends_so(alloc, &mut source, ("Read", "")) || !source.failed() {
-            return false;
-        }
-    }
-    let wanted = wanted.split_once(" | ").expect(rt, "a text");
-    let calls = bytes.len().wrapping_add(1);
-    ends_so(alloc, &mut ByteSource::new(bytes, calls), wanted)
-        && is_read_whole(alloc, &mut ByteSource::new(bytes, calls), bytes) == Ok(true)
+    ends_so(alloc, Portions::new(bytes, 1), wanted) && is_read_whole(alloc, bytes, 1) == Ok(true)
 }
 
 /// In each row: how many line ends there are, how many of them are given a call, whether the source
@@ -108,6 +73,6 @@ fn tells_that_a_source_fails_or_is_too_long(rt: HostRuntime) {
         } else {
             Portions::new(blanks, *each)
         };
-        assert!(rt; reads_so(rt.alloc(), source, *wanted));
+        assert!(rt; ends_so(rt.alloc(), source, *wanted));
     }
 }

@@ -6,8 +6,8 @@ use crate::arrivals::said_of_state;
 use crate::bench::said_of_both;
 use crate::calls::assembly_of;
 use crate::plans::{assembly_named, plan_named};
-use crate::puts::{puts, puts_fronts, puts_poorly, puts_to_short_sinks};
-use crate::sources::{reads_bytes, reads_portions};
+use crate::puts::{puts, puts_fronts, puts_poorly};
+use crate::sources::reads_portions;
 use crate::verdicts::{is_upgraded, said_of_judge, sizes_of};
 use crate::want::wants_memory;
 use burr_runs::read_answers;
@@ -63,12 +63,8 @@ pub enum How {
     Plainly,
     /// With sinks that take a front of what is put.
     InFronts,
-    /// With sinks that take a front of what is put, and stand over no writer.
-    ToShortSinks,
     /// With sources that give a byte a call, and fail.
     InPortions,
-    /// With sources that give a byte a call, fail, and stand over no reader.
-    FromByteSources,
     /// While memory is wanting here and there.
     Wanting,
     /// With ample memory as without, farther down the stack.
@@ -120,9 +116,7 @@ fn assert_case(rt: &impl Abort, alloc: Global, table: &Table, line: &str) {
     let wanted = lines_of(rt, alloc, wanted);
     let is_right = match table.how {
         How::InFronts => puts_fronts(rt, alloc, table, given, &wanted),
-        How::ToShortSinks => puts_to_short_sinks(rt, alloc, table, given, &wanted),
         How::InPortions => reads_portions(rt, alloc, table, given, &wanted),
-        How::FromByteSources => reads_bytes(rt, alloc, table, given, &wanted),
         How::Wanting => wants_memory(rt, alloc, table, given, &wanted),
         How::FartherDown | How::Poorly => puts_poorly(rt, alloc, table, given, &wanted),
         _ => comes_to(rt, alloc, table, given, &wanted),

@@ -9,7 +9,6 @@ use burr_bench::Trap;
 use burr_container::Container;
 use burr_forms::Point;
 use burr_frames::{Break, Miss, Rule};
-use burr_io::Writing;
 use burr_judge::StepFault;
 use burr_runs::{AnswersFault, BenchFault};
 use burr_step::StepRefusal;
@@ -209,83 +208,6 @@ fn add_judgements(lines: &mut String) -> Result<(), AllocError> {
     writeln!(lines, "{refusal}")
 }
 
-/// All rules, by their numbers.
-const RULES: [Rule; 28] = [
-    Rule::OtherAssembly,
-    Rule::BadCode,
-    Rule::BadLabel,
-    Rule::MissingFrame,
-    Rule::UnendedCode,
-    Rule::MissingOperand,
-    Rule::StackFull,
-    Rule::EmptySlot,
-    Rule::ParamWritten,
-    Rule::BadJump,
-    Rule::BadCount,
-    Rule::NumberRange,
-    Rule::GripOff,
-    Rule::BadGroup,
-    Rule::Collision,
-    Rule::NotFree,
-    Rule::TrayInUse,
-    Rule::OffBench,
-    Rule::BadCall,
-    Rule::EntryMissed,
-    Rule::FrameMissed,
-    Rule::ExitMissed,
-    Rule::NotApart,
-    Rule::CostTooLow,
-    Rule::StateTooLarge,
-    Rule::FormTooLarge,
-    Rule::BadFrame,
-    Rule::BudgetTooLow,
-];
-
-/// Each rule, in a break and in a refusal, with the numbers of other pieces, places and points.
-#[test]
-fn messages_of_rules(rt: HostRuntime) {
-    let mut number = 0u8;
-    for rule in &RULES {
-        let before = number;
-        number = number.wrapping_add(1);
-        let said = said_of_rule(rt.alloc(), *rule, before).expect(&rt, "memory");
-        let wanted = format!(in rt.alloc();
-            "V{number} is broken; \
-V{number} is broken in procedure {before} at {}; the frame is not met",
-            65_535 - u16::from(before)
-        )
-        .expect(&rt, "memory");
-        assert!(rt; said == wanted, "{said}");
-    }
-}
-
-/// What a break of a rule says, a refusal by it, and a miss.
-fn said_of_rule(alloc: Global, rule: Rule, number: u8) -> Result<String, AllocError> {
-    let broken = Break {
-        rule,
-        pieces: Some((number, 31)),
-        point: Some(point_of(number)),
-    };
-    let refusal = Refusal {
-        proc: number,
-        pc: 65_535 - u16::from(number),
-        rule,
-        pieces: Some((31, number)),
-        point: Some(point_of(number)),
-    };
-    let miss = Miss {
-        point: Some(point_of(number)),
-    };
-    format!(in alloc; "{broken}; {refusal}; {miss}")
-}
-
-/// A point of one number.
-fn point_of(number: u8) -> Point {
-    let mut point = Point::new();
-    point.push(i32::from(number));
-    point
-}
-
 // Plans of version 1 and their plans of version 2.
 
 /// Whether a plan after edits is upgraded to that after other edits.
@@ -331,7 +253,7 @@ fn upgraded_plans_run_as_before(rt: HostRuntime) {
 fn sheet_of(rt: &impl Abort, alloc: Global, how: How, run: &'static str, answers: &str) -> Vec<u8> {
     let mut sheet = Vec::new(alloc);
     let table = table_of(rt, Kind::Run, how, run);
-    let end = put(rt, alloc, &table, answers, &mut Writing::new(&mut sheet));
+    let end = put(rt, alloc, &table, answers, &mut sheet);
     assert!(rt; end == "Apart" || end == "Waiting", "{run} {answers}");
     sheet
 }

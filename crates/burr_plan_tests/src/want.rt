@@ -2,7 +2,7 @@
 
 use crate::calls::{assembly_of, rows_of};
 use crate::plans::CUP_PLAN;
-use crate::puts::write_bare;
+use crate::puts::put_bare;
 use crate::sources::input_of;
 use crate::tables::{Table, bytes_of};
 use crate::ways::{Question, answer};
@@ -58,7 +58,7 @@ impl Trial for BareRun<'_> {
         let mut room = [0; 1024];
         let mut source = Portions::new(self.input.as_bytes(), self.portion);
         let mut written = Cursor::new(room.as_mut_slice());
-        let word = write_bare(alloc, &mut source, &mut written);
+        let word = put_bare(alloc, &mut source, &mut written);
         let count = written.position() as usize;
         if word == "Memory" && count == 0 {
             return if source.has_ended {

@@ -1,6 +1,6 @@
 -- What a job's result says, once its files are left out and its output is flushed.
-use Rattle.std.proofs.Common.{◌≡◌, List, ℕ, [], ◌++◌, true, false, ap, sym, subst, ◌∙◌, ◌⊎◌, inl, inr}
-use Rattle.std.specs.Prelude.{Result, Ok, Err}
+use Rattle.std.proofs.Common.{◌≡◌, List, ℕ, [], ◌++◌, true, false, ap, refl, sym, subst, ◌∙◌, ◌⊎◌, inl, inr}
+use Rattle.std.specs.Prelude.{Result, Ok, Err, IfOk, IfErr, string_bytes}
 use Rattle.burr_io.specs.Sink.{SinkView, Takes}
 use Rattle.burr_io.specs.Source.{SourceView}
 use Rattle.burr_io.specs.LineWriter.{Lines, lines_view}
@@ -13,7 +13,8 @@ use Rattle.burr_judge.specs.declared.status.Status.{Status}
 use Rattle.burr_judge.specs.declared.status.Status.TheVariants.{Refused}
 use Rattle.burr_judge.specs.declared.stop.Stop.{Stop}
 use Rattle.burr_judge.specs.declared.stop.Stop.TheVariants as halts
-use Rattle.burr_judge.specs.Faults.{line_of}
+use Rattle.burr_judge.specs.Faults.{line_of, output_failed}
+use Rattle.burr_judge.specs.PlanEnds.{Ends}
 use Rattle.burr_judge.specs.Refusals.{refusal_text}
 use Rattle.burr_judge.specs.Statuses.{code_of}
 use Rattle.burr_judge.specs.StepEnds.{Left, left_by}

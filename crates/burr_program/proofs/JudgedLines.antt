@@ -1,8 +1,9 @@
 -- Lines of a list of pairs of names, and what is told of them.
-use Rattle.std.proofs.Common.{◌≡◌, ◌≢◌, ℕ, List, [], ◌∷◌, ◌++◌, length, take, Bool, true, false, Contains, Bor, None, Result, Ok, Err, refl, sym, subst, ◌∙◌, inl, inr, arith}
+use Rattle.std.proofs.Common.{◌≡◌, ◌≢◌, ℕ, List, [], ◌∷◌, ◌++◌, length, take, Bool, true, false, Contains, Bor, Option, Some, None, Result, Ok, Err, refl, sym, subst, ◌∙◌, inl, inr, arith}
 use Rattle.std.specs.Prelude.{◌≤◌, IfOk, IfErr, MatchResult, codes, decimal}
 use Rattle.std.specs.Result.{result_ok}
 use Rattle.burr_judge.specs.Statuses.{code_of}
+use Rattle.std.specs.Io.KnownBytes.{Appends}
 use Rattle.std.specs.Str.{IsUtf8}
 use Rattle.std.proofs.lemmas.List.{length-take, take_all}
 use Rattle.std.proofs.lemmas.Option.{none-some}
@@ -19,7 +20,7 @@ use Rattle.burr_judge.specs.Refusals.{refusal_text}
 use Rattle.burr_judge.specs.Stops.{Reports}
 use Rattle.burr_program.specs.Commands.{FileResult}
 use Rattle.burr_judge.specs.Views.Dialogues.{PutsAnswer, FailsInAnswer, TellsByFront}
-use Rattle.burr_program.specs.ListEnds.{ArePair, IsPair, LineEnds, Tally, AnswersPair, AsksNothing, tallied, judged_line}
+use Rattle.burr_program.specs.ListEnds.{ArePair, IsPair, LineEnds, PairEnds, Tally, AnswersPair, AsksNothing, tallied, judged_line}
 use Rattle.burr_program.specs.Judging.{TellsJudged}
 
 -- Pairs

@@ -1,5 +1,5 @@
 -- The result of `why` and `trace`, stage by stage: what is printed, and notes below it.
-use Rattle.std.proofs.Common.{◌≡◌, List, ℕ, [], refl, sym, inl, inr}
+use Rattle.std.proofs.Common.{◌≡◌, ◌++◌, List, ℕ, [], refl, sym, inl, inr}
 use Rattle.std.specs.Prelude.{Result}
 use Rattle.std.specs.Result.{IsErrAnd}
 use Rattle.std.proofs.lemmas.List.{append-nil}

@@ -1,5 +1,5 @@
 -- What a reply says, once its output is flushed or its fault is reported.
-use Rattle.std.proofs.Common.{◌≡◌, ℕ, List, [], refl, sym, ap, subst, inl, inr}
+use Rattle.std.proofs.Common.{◌≡◌, ℕ, List, [], refl, sym, ap, subst, ◌∙◌, inl, inr}
 use Rattle.std.specs.Prelude.{Result, Ok, Err}
 use Rattle.burr_io.specs.Sink.{SinkView, Takes}
 use Rattle.burr_io.specs.LineWriter.{Lines, lines_view}

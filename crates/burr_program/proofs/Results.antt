@@ -1,6 +1,6 @@
 -- The result of a command, from the results of its calls.
 use Rattle.std.proofs.Common.{◌≡◌, ◌∷◌, ◌⊎◌, List, ℕ, [], None, Some, refl, sym, subst, inl, inr, arith}
-use Rattle.std.specs.Prelude.{Bool, Contains, Option, String, Result, Ok, Err, IfErr, codes, string_bytes}
+use Rattle.std.specs.Prelude.{Bool, Contains, Option, String, Result, Ok, Err, IfOk, IfErr, codes, string_bytes}
 use Rattle.std.specs.Io.KnownBytes.{Appends}
 use Rattle.std.specs.declared.alloc.Global.{Global}
 use Rattle.std.proofs.lemmas.List.{append-nil}

@@ -44,7 +44,7 @@ calls_same b new s last answers left motions same calls =
     (subst (λ (a : Assembly). Calls (running (homes_of a) new.program) new.program.budget s answers motions last left) same.assembly calls)
 
 -- the one closes where the other does
-pub closes_same : (b new : Benched) (last : BenchState) (left : List ℤ) (closing : Closing) → IsSameRun b new
+closes_same : (b new : Benched) (last : BenchState) (left : List ℤ) (closing : Closing) → IsSameRun b new
     → ClosesAt (setup_of new) new.program.budget last left closing → ClosesAt (setup_of b) b.program.budget last left closing
 closes_same b new last left closing same closes =
     subst (λ (p : Program). ClosesAt (running (homes_of b.assembly) p) p.budget last left closing) same.program
@@ -117,22 +117,16 @@ one_step_on b new answers motion going same called = record {
   calls = went b.state new.state new.state motion answers answers [] going called (begun new.state answers);
 }
 
--- the run closes by the trap
-pub traps_there : (b new : Benched) (left : List ℤ) (trap : Trap) (procedure pc : ℕ) → IsGoing b.program.budget b.state → Called (setup_of b) b.state None (Err trap) new.state
-    → new.state ≡ record b.state { mode = Trapped trap } → procedure ≡ new.state.running.procedure → pc ≡ new.state.running.pc
-    → ClosesAt (setup_of b) b.program.budget b.state left (closings.Trapped trap procedure pc)
-traps_there b new left trap procedure pc going called stands in_procedure at =
-    let here : new.state.running ≡ b.state.running = ap (λ (s : BenchState). s.running) stands in
-    (going, (new.state, called), in_procedure ∙ ap (λ (a : Activation). a.procedure) here, at ∙ ap (λ (a : Activation). a.pc) here)
-
 pub trapped_there : (b new : Benched) (answers : List ℤ) (trap : Trap) (procedure pc : ℕ) → IsGoing b.program.budget b.state → IsSameRun b new → Called (setup_of b) b.state None (Err trap) new.state
     → new.state ≡ record b.state { mode = Trapped trap } → procedure ≡ new.state.running.procedure → pc ≡ new.state.running.pc
     → IsAtRunEnd b answers new (outcome_of (closings.Trapped trap procedure pc))
 trapped_there b new answers trap procedure pc going same called stands in_procedure at =
-    closes_here b new answers (closings.Trapped trap procedure pc) same (traps_there b new answers trap procedure pc going called stands in_procedure at) stands
+    let here : new.state.running ≡ b.state.running = ap (λ (s : BenchState). s.running) stands in
+    closes_here b new answers (closings.Trapped trap procedure pc) same
+    (going, (new.state, called), in_procedure ∙ ap (λ (a : Activation). a.procedure) here, at ∙ ap (λ (a : Activation). a.pc) here) stands
 
 -- a question is asked where it stands next
-pub asked_there : (b : Benched) (low high : ℤ) → IsGoing b.program.budget b.state → NextIs (setup_of b) b.state (Asks low high) → Called (setup_of b) b.state None (Ok (progress.Asks low high)) b.state
+asked_there : (b : Benched) (low high : ℤ) → IsGoing b.program.budget b.state → NextIs (setup_of b) b.state (Asks low high) → Called (setup_of b) b.state None (Ok (progress.Asks low high)) b.state
 asked_there b low high going asks = of_running (setup_of b) b.state b.state None (Ok (progress.Asks low high)) going.running (Asks low high, asks, refl, refl)
 
 -- it waits where no answer is left
@@ -142,7 +136,7 @@ waits_there b low high answers none going asks =
     closes_here b b answers (closings.Waiting low high) (record { assembly = refl; program = refl }) (going, asked_there b low high going asks, none) refl
 
 -- what a call with an answer tells of a running state is no trap
-pub told_in_running : (setup : Setup) (s new : BenchState) (answer : ℤ) (result : Result Told Trap) → CallIn Running setup s (Some answer) result new → (told : Told) × (result ≡ Ok told)
+told_in_running : (setup : Setup) (s new : BenchState) (answer : ℤ) (result : Result Told Trap) → CallIn Running setup s (Some answer) result new → (told : Told) × (result ≡ Ok told)
 told_in_running setup s new answer result (inl taken) = (progress.Went None, taken.1)
 told_in_running setup s new answer result (inr unfit) = (progress.Again, unfit.1)
 

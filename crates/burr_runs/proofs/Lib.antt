@@ -7,4 +7,3 @@ pub mod AfterRuns
 pub mod StepByStep
 pub mod WholeInput
 pub mod WorkedRows
-pub mod Shown

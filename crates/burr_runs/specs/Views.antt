@@ -3,4 +3,3 @@ pub mod NamedRefusals
 pub mod ReadWhole
 pub mod Running
 pub mod AfterRuns
-pub mod Shown

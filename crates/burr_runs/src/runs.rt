@@ -6,7 +6,6 @@ ghost use Rattle.burr_state.specs.Views.Benches.{IsAtStart, Benched, setup_of, m
 ghost use Rattle.burr_runs.specs.Rules.Output.{outcome_of};
 ghost use Rattle.burr_runs.specs.Views.Running.{PutsSheet, FailsInSheet, FailsInRun, IsInStep, ClosesPart, run_state, TurnIs, AnswerIs};
 ghost use Rattle.burr_runs.specs.Views.AfterRuns.{IsAtRunEnd, IsInRun, TurnStands};
-ghost use Rattle.burr_runs.specs.Views.Shown.{SeesFront, SeesRun, TurnLeads};
 ghost use Rattle.burr_state.specs.declared.effect.Mode.TheVariants.{Ended, Running};
 ghost use Rattle.burr_state.specs.Rules.Step.{Called, NextIs};
 ghost use Rattle.burr_state.specs.Rules.Next.{Asks};
@@ -54,7 +53,7 @@ pub fn try_plan<B: Blocking, W: Sink>(
     try_observed(bench, answers, &mut (), sink)
 }
 
-/// Does the same, and shows the observer each state of the run.
+/// Does the same while an observer looks on.
 pub fn try_observed<B: Blocking, O: Observer, W: Sink>(
     bench: &mut Checked<B>,
     answers: &[i32],
@@ -68,17 +67,13 @@ pub fn try_observed<B: Blocking, O: Observer, W: Sink>(
         bench.old.assembly bench.old.program answers.now) }
     ensures end { IfOk result (IsAtRunEnd bench.old answers.now bench.new) }
     ensures under_way { OnErr result (IsInRun bench.old answers.now bench.new) }
-    ensures seen { IfOk result
-        (SeesRun O.has_seen observer.old observer.new bench.old answers.now) }
-    ensures seen_front { OnErr result
-        (SeesFront O.has_seen observer.old observer.new bench.old answers.now) }
 {
     let (assembly, budget) = (bench.assembly(), bench.budget());
     run(bench, assembly, budget, answers, observer, sink)
 }
 
 /// Runs the program of a bench at its start, with these answers and within the program's budget, and
-/// writes the run's sheet. Shows the observer each state of the run.
+/// writes the run's sheet, while an observer looks on.
 pub fn run<'a, R: Runner<'a>, O: Observer, W: Sink>(
     runner: &mut R,
     assembly: &Assembly,
@@ -100,10 +95,6 @@ pub fn run<'a, R: Runner<'a>, O: Observer, W: Sink>(
         (IsAtRunEnd (R.benched runner.old) answers.now (R.benched runner.new)) }
     ensures under_way { OnErr result
         (IsInRun (R.benched runner.old) answers.now (R.benched runner.new)) }
-    ensures seen { IfOk result
-        (SeesRun O.has_seen observer.old observer.new (R.benched runner.old) answers.now) }
-    ensures seen_front { OnErr result
-        (SeesFront O.has_seen observer.old observer.new (R.benched runner.old) answers.now) }
 {
     let mut sheet = Sheet::new(assembly);
     let closing = run_to_close(
@@ -151,10 +142,6 @@ fn run_to_close<'a, R: Runner<'a>, O: Observer, W: Sink>(
         IsAtRunEnd (R.benched runner.old) answers.now (R.benched runner.new) (outcome_of closing)) }
     ensures under_way { OnErr result
         (IsInRun (R.benched runner.old) answers.now (R.benched runner.new)) }
-    ensures seen { IfOk result (λ closing. SeesRun O.has_seen observer.old observer.new
-        (R.benched runner.old) answers.now (outcome_of closing)) }
-    ensures seen_front { OnErr result
-        (SeesFront O.has_seen observer.old observer.new (R.benched runner.old) answers.now) }
 {
     let mut answers = answers;
     loop {
@@ -172,26 +159,14 @@ fn run_to_close<'a, R: Runner<'a>, O: Observer, W: Sink>(
     }
 }
 
-/// Who sees the states of a run.
+/// Who looks on while a bench runs.
 pub trait Observer {
-    ghost use Rattle.std.specs.Prelude.{◌++◌, ◌∷◌, [], List};
-    ghost use Rattle.burr_runs.specs.Views.Shown.{Seen};
-
-    /// It has seen these states of a run, in this order, each with the answers that were left then.
-    ghost has_seen: { Self → List Seen → Type 0 };
-
     /// Sees where the run stands, and the answers that are left: before its first turn, and after each.
-    fn observe(&mut self, state: &BenchState, answers: &[i32])
-        ensures { (seen : List Seen) → has_seen self.old seen
-            → has_seen self.new (seen ++ (state.now, answers.now) ∷ []) };
+    fn observe(&mut self, state: &BenchState, answers: &[i32]);
 }
 
-/// Nobody sees the run.
+/// Nobody looks on.
 impl Observer for () {
-    ghost use Rattle.std.specs.Prelude.{⊤};
-
-    ghost has_seen = { λ _ _. ⊤ };
-
     fn observe(&mut self, _state: &BenchState, _answers: &[i32]) {}
 }
 
@@ -258,8 +233,6 @@ pub fn take_turn<'a, 'r, R: Runner<'r>, W: Sink>(
         (TurnStands (R.benched runner.old) answers.entry.now (R.benched runner.new)) }
     ensures under_way { OnErr result
         (IsInRun (R.benched runner.old) answers.entry.now (R.benched runner.new)) }
-    ensures leads { IfOk result
-        (TurnLeads (R.benched runner.old) answers.entry.now (R.benched runner.new)) }
 {
     match runner.step(None) {
         Ok(Progress::Went(Some(motion))) => {
@@ -292,8 +265,6 @@ fn give_answer<'a, 'r, R: Runner<'r>>(
     ensures is { AnswerIs (R.benched runner.old) answers.entry.now low high (R.benched runner.new)
         result }
     ensures stands { TurnStands (R.benched runner.old) answers.entry.now (R.benched runner.new)
-        result }
-    ensures leads { TurnLeads (R.benched runner.old) answers.entry.now (R.benched runner.new)
         result }
 {
     let Some((answer, left)) = answers.split_first() else {

@@ -3,7 +3,7 @@ ghost use Rattle.burr_state.specs.Laws.AsideLaws.{GroupGoesAside};
 ghost use Rattle.burr_state.specs.Laws.MotionLaws.{TraysAreFew, MotionsAreOfPieces, MotionsAreWithinBudget};
 ghost use Rattle.burr_state.specs.Laws.PartLaws.{PartsAreCounted};
 ghost use Rattle.burr_state.specs.Laws.SpaceLaws.{GripStays, NoOverlapStays, NoneLoneStays, HomesAreDisjoint, GripIsHere, PiecesNeverOverlap, NoPieceIsLone};
-ghost use Rattle.burr_state.specs.Laws.StepLaws.{SomeExecution, OneExecution, CallIsOneStep, PieceCountStays};
+ghost use Rattle.burr_state.specs.Laws.StepLaws.{SomeExecution, OneExecution, CallIsOneStep};
 ghost use Rattle.burr_state.specs.Laws.RunLaws.{OneNext, SomeNext, OneCall, SomeCall, OneResult, SomeResult, RunIsCalls, MoreAnswersGoOn};
 
 /// Each instruction, carried out at any state, has one effect.
@@ -25,11 +25,6 @@ pub fn a_step_has_one_result()
 /// any other changes nothing.
 pub fn a_call_leaves_what_it_tells()
     ensures { CallIsOneStep }
-{}
-
-/// No call of the bench changes how many pieces there are.
-pub fn a_call_keeps_the_number_of_pieces()
-    ensures { PieceCountStays }
 {}
 
 /// A run has a result, and it is the only one.

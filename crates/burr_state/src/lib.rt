@@ -29,8 +29,7 @@
 //!   (`an_instruction_has_one_effect`).
 //! - Something stands next at a state, and one thing alone; a call says one thing and leaves one
 //!   state (`a_step_has_one_result`). A call that says a step has made one, one that says a trap
-//!   changes the mode alone, and any other changes nothing (`a_call_leaves_what_it_tells`). No call
-//!   changes how many pieces there are (`a_call_keeps_the_number_of_pieces`).
+//!   changes the mode alone, and any other changes nothing (`a_call_leaves_what_it_tells`).
 //! - A run has a result, from each state that did not trap, and it is the only one
 //!   (`a_run_has_one_result`). It is a chain of calls, up to where the last of them closes it
 //!   (`a_run_is_a_chain_of_calls`). With more answers the steps made so far stay, and others follow
@@ -68,11 +67,11 @@ pub use activation::Suspended;
 pub use bench::Bench;
 pub use effect::{Closing, Effect, Mode, Motion, Progress, Trap};
 pub use laws::{
-    a_call_keeps_the_number_of_pieces, a_call_leaves_what_it_tells, a_run_has_one_result,
-    a_run_is_a_chain_of_calls, a_run_with_more_answers_goes_on, a_step_has_one_result,
-    a_step_keeps_pieces_apart, an_instruction_has_one_effect, going_aside_parts_lone_pieces,
-    motions_are_of_pieces_in_trays, motions_are_within_the_budget,
-    parts_are_trays_and_pieces_apart, pieces_never_overlap, records_go_back,
+    a_call_leaves_what_it_tells, a_run_has_one_result, a_run_is_a_chain_of_calls,
+    a_run_with_more_answers_goes_on, a_step_has_one_result, a_step_keeps_pieces_apart,
+    an_instruction_has_one_effect, going_aside_parts_lone_pieces, motions_are_of_pieces_in_trays,
+    motions_are_within_the_budget, parts_are_trays_and_pieces_apart, pieces_never_overlap,
+    records_go_back,
 };
 pub use program::{OwnedProgram, Program};
 pub use state::{BenchState, one_unit_on};

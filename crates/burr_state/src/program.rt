@@ -128,8 +128,7 @@ impl<'a> Program<'a> {
     /// Bare code of at most 4,096 bytes: one procedure without labels, and the greatest budget.
     pub fn bare(code: &'a [u8]) -> Program<'a>
         requires { length code.now ≤ MOST_CODE }
-        ensures program { result ≡ bare_program code.entry.now }
-        ensures some { 0 < length result.procedures }
+        ensures { result ≡ bare_program code.entry.now }
     {
         let mut procedures = ArrayVec::new();
         procedures.push(Procedure::bare(code));

@@ -9,13 +9,10 @@
 //!   None where that byte is not there.
 //! - A `Name` is a name. `Name::new` asks for bytes that are one (`is_name`); it takes memory, and
 //!   answers `AllocError` where that is refused.
-//! - The longest name has 32 bytes (`a_name_has_at_most_32_bytes`).
 #![tactic(auto)]
 
-mod laws;
 mod name;
 mod words;
 
-pub use laws::a_name_has_at_most_32_bytes;
 pub use name::{LONGEST_NAME, Name, is_name};
 pub use words::{cut_at, integer, is_number, is_word};

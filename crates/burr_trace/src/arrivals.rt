@@ -170,11 +170,6 @@ impl<'x, 'a, 'c> Arrivals<'x, 'a, 'c> {
 }
 
 impl Observer for Arrivals<'_, '_, '_> {
-    ghost use Rattle.std.specs.Prelude.{⊤};
-
-    // It keeps no list of what it has seen.
-    ghost has_seen = { λ _ _. ⊤ };
-
     fn observe(&mut self, state: &BenchState, answers: &[i32]) {
         let stand = Stand {
             procedure: usize::from(state.procedure()),

@@ -1,8 +1,5 @@
 //! Numbers that were seen, as forms over slots.
 
-ghost use Rattle.std.specs.Prelude.{◌≡◌, ◌≤ℤ◌, IsTrue, IfSome};
-ghost use Rattle.burr_trace.specs.Fits.{value_at, number_of, GivesAll, IsAbove, IsFitOf, AreEnds, IsLeastOf};
-
 use burr_code::limits::SLOTS;
 use std::alloc::{AllocError, Global};
 use std::fmt;
@@ -39,22 +36,6 @@ pub fn slot_choices(alloc: Global, had: Slots, others: Slots) -> Result<Vec<Slot
     Ok(choices)
 }
 
-/// The least and the greatest number of some points.
-fn range_of(points: &[Point]) -> (i64, i64)
-    ensures { AreEnds points.now result.0 result.1 }
-{
-    let Some(first) = points.first() else {
-        return (i64::MAX, i64::MIN);
-    };
-    let mut least = first[NUMBER];
-    let mut greatest = first[NUMBER];
-    for point in points {
-        least = least.min(point[NUMBER]);
-        greatest = greatest.max(point[NUMBER]);
-    }
-    (least, greatest)
-}
-
 /// The least and the greatest number at each place of some points.
 pub fn ranges_of(points: &[Point]) -> [(i64, i64); PLACES] {
     let mut ranges = [(i64::MAX, i64::MIN); PLACES];
@@ -87,15 +68,13 @@ pub enum Fit {
 impl Fit {
     /// The fit of a number at these points: the form over the first of these sets of slots over
     /// which there is a form, else a range.
-    pub fn of(points: &[Point], choices: &[Slots]) -> Fit
-        ensures { IsFitOf points.now result }
-    {
+    pub fn of(points: &[Point], choices: &[Slots]) -> Fit {
         for slots in choices {
             if let Some(form) = FittedForm::through(points, *slots) {
                 return Fit::Form(form);
             }
         }
-        let (least, greatest) = range_of(points);
+        let (least, greatest) = ranges_of(points)[NUMBER];
         Fit::Range(least, greatest)
     }
 
@@ -129,103 +108,28 @@ pub struct FittedForm(pub [i64; UNKNOWNS]);
 impl FittedForm {
     /// The form over these slots that gives the number at each point; None where there is no such
     /// form, or its factors are not whole.
-    fn through(points: &[Point], slots: Slots) -> Option<FittedForm>
-        ensures { IfSome result (λ form. GivesAll form points.now) }
-    {
+    fn through(points: &[Point], slots: Slots) -> Option<FittedForm> {
         let mut equations = Equations::default();
         for point in points {
             equations.add(&over(slots, point))?;
         }
-        let form = equations.solve()?;
-        if form.gives_all(points) {
-            Some(form)
-        } else {
-            None
-        }
+        equations.solve()
     }
 
     /// A form that is at least the number at each point, with factors for these slots as the number grows
-    /// from the least to the greatest that they hold; None if a number is too great.
-    pub fn above(points: &[Point], slots: Slots) -> Option<FittedForm>
-        ensures { IfSome result (λ form. IsAbove form points.now) }
-    {
+    /// from the least to the greatest that they hold.
+    pub fn above(points: &[Point], slots: Slots) -> FittedForm {
         let mut form = FittedForm::default();
         for slot in 0..SLOTS {
             if slots & (1 << slot) != 0 {
                 form.0[slot + 1] = growth(points, slot + 1);
             }
         }
-        form.0[0] = form.most_wanting(points)?;
-        if form.is_above(points) {
-            Some(form)
-        } else {
-            None
-        }
-    }
-
-    /// The most by which the number of a point is above what the form gives there.
-    fn most_wanting(&self, points: &[Point]) -> Option<i64> {
-        let mut most = None;
-        for point in points {
-            let wanting = point[NUMBER].checked_sub(self.at(point)?)?;
-            most = most.max(Some(wanting));
-        }
-        Some(most.unwrap_or(0))
-    }
-
-    /// Whether it gives the number at each point.
-    fn gives_all(&self, points: &[Point]) -> bool
-        ensures { IsTrue result → GivesAll self.now points.now }
-    {
-        for point in points {
-            if !self.gives(point) {
-                return false;
-            }
-        }
-        true
-    }
-
-    /// Whether it gives the number at a point.
-    fn gives(&self, point: &Point) -> bool
-        ensures { IsTrue result → value_at self.now point.now ≡ number_of point.now }
-    {
-        match self.at(point) {
-            Some(number) => number == point[NUMBER],
-            None => false,
-        }
-    }
-
-    /// Whether it is at least the number at each point.
-    fn is_above(&self, points: &[Point]) -> bool
-        ensures { IsTrue result → IsAbove self.now points.now }
-    {
-        for point in points {
-            if !self.reaches(point) {
-                return false;
-            }
-        }
-        true
-    }
-
-    /// Whether it is at least the number at a point.
-    fn reaches(&self, point: &Point) -> bool
-        ensures { IsTrue result → number_of point.now ≤ℤ value_at self.now point.now }
-    {
-        match self.at(point) {
-            Some(number) => point[NUMBER] <= number,
-            None => false,
-        }
-    }
-
-    /// The least number that it gives at some points; None if a number is too great.
-    pub fn least_at(&self, points: &[Point]) -> Option<i64>
-        ensures { IfSome result (IsLeastOf self.now points.now) }
-    {
-        let mut least = i64::MAX;
-        for point in points {
-            least = least.min(self.at(point)?);
-        }
-        Some(least)
+        let wanting = points
+            .iter()
+            .map(|point| point[NUMBER].saturating_sub(form.at(point)));
+        form.0[0] = wanting.max().unwrap_or(0);
+        form
     }
 
     /// The slots that it has.
@@ -248,17 +152,13 @@ impl FittedForm {
         left
     }
 
-    /// The number that it gives where the slots held what they did at a point; None if it is too great.
-    pub fn at(&self, point: &Point) -> Option<i64>
-        ensures { IfSome result (λ number. number ≡ value_at self.now point.now) }
-    {
-        let mut number: i128 = 0;
-        for n in 0..UNKNOWNS {
-            let factor = i128::from(self.0[n]);
-            let held = i128::from(point[n]);
-            number = number.checked_add(factor * held)?;
+    /// The number that it gives where the slots held what they did at a point.
+    pub fn at(&self, point: &Point) -> i64 {
+        let mut number: i64 = 0;
+        for (factor, held) in self.0.iter().zip(point) {
+            number = number.saturating_add(factor.saturating_mul(*held));
         }
-        i64::try_from(number).ok()
+        number
     }
 }
 

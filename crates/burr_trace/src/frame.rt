@@ -1,9 +1,5 @@
 //! The frame that all visits of a place agree with.
 
-ghost use Rattle.std.specs.Prelude.{IfSome};
-ghost use Rattle.std.specs.List.{All, Contains};
-ghost use Rattle.burr_trace.specs.Fits.{AreGuards, IsAbove, IsNeverNegative};
-
 use crate::fit::{Fit, FittedForm, NUMBER, PLACES, Point, Slots, over, ranges_of, slot_choices};
 use crate::trace::Snapshot;
 use arrayvec::ArrayVec;
@@ -258,38 +254,32 @@ impl Fitting<'_> {
         Ok(terms)
     }
 
-    /// Takes a difference as a guard, if it shuts out more than one that there is no room for.
-    fn offer_guard(&self, difference: &FittedForm, guards: &mut ArrayVec<Guard, MOST_GUARDS>)
-        requires { AreGuards self.now.costs.now guards.old.items }
-        ensures { AreGuards self.now.costs.now guards.new.items }
-    {
-        let Some(guard) = self.guard_of(difference) else {
-            return;
+    /// Takes a difference as a guard, where it shuts out more than one that there is no room for.
+    fn offer_guard(&self, difference: &FittedForm, guards: &mut ArrayVec<Guard, MOST_GUARDS>) {
+        let numbers = self.costs.iter().map(|point| difference.at(point));
+        let least = numbers.min().unwrap_or(0);
+        let mut guard = Guard {
+            form: *difference,
+            shut_out: least.saturating_sub(self.least_in_ranges(difference)),
         };
-        if guards.contains(&guard) || !make_room(guard.shut_out, guards) {
+        guard.form.0[0] = guard.form.0[0].saturating_sub(least);
+        if least < 0 || guard.shut_out <= 0 || guards.contains(&guard) {
             return;
+        }
+        if guards.is_full() {
+            let strengths = guards.iter().map(|other| other.shut_out).enumerate();
+            match strengths.min_by_key(|(_, shut_out)| *shut_out) {
+                Some((weakest, shut_out)) if shut_out < guard.shut_out => {
+                    let _ = guards.pop_at(weakest);
+                }
+                _ => return,
+            }
         }
         let _ = guards.try_push(guard);
     }
 
-    /// A difference, less the least that it ever was, as a guard. None if that was negative, if the guard
-    /// shuts out nothing, or if a number is too great.
-    fn guard_of(&self, difference: &FittedForm) -> Option<Guard>
-        ensures { IfSome result (λ guard. IsNeverNegative guard.form self.now.costs.now) }
-    {
-        let least = difference.least_at(self.costs)?;
-        let shut_out = least.saturating_sub(self.least_in_ranges(difference)?);
-        let mut form = *difference;
-        form.0[0] = form.0[0].saturating_sub(least);
-        if least < 0 || shut_out <= 0 || form.least_at(self.costs)? < 0 {
-            return None;
-        }
-        Some(Guard { form, shut_out })
-    }
-
-    /// The least that a form gives if each slot may hold any number of its range; None if a number is too
-    /// great.
-    fn least_in_ranges(&self, form: &FittedForm) -> Option<i64> {
+    /// The least that a form gives where each slot may hold any number of its range.
+    fn least_in_ranges(&self, form: &FittedForm) -> i64 {
         let mut ends = [0; PLACES];
         for n in 0..NUMBER {
             let (least, greatest) = self.ranges[n];
@@ -302,25 +292,13 @@ impl Fitting<'_> {
     /// the same, else more.
     fn add_cost(&self, frame: &mut Frame) -> Result<(), AllocError> {
         let greatest = self.greatest_costs()?;
-        match self.cost_form(&greatest) {
-            Some(form) => {
-                frame.cost_at_start = form.0[0];
-                frame.say(true, format_args!("cost {form}"));
-            }
-            None => frame.say(false, "cost: too great"),
-        }
+        let form = match Fit::of(&greatest, self.choices) {
+            Fit::Form(form) => form,
+            Fit::Range(..) => FittedForm::above(&greatest, self.slots),
+        };
+        frame.cost_at_start = form.0[0];
+        frame.say(true, format_args!("cost {form}"));
         Ok(())
-    }
-
-    /// The form that gives these costs, else a form that is at least each of them; None if a number is too
-    /// great.
-    fn cost_form(&self, greatest: &[Point]) -> Option<FittedForm>
-        ensures { IfSome result (λ form. IsAbove form greatest.now) }
-    {
-        match Fit::of(greatest, self.choices) {
-            Fit::Form(form) => Some(form),
-            Fit::Range(..) => FittedForm::above(greatest, self.slots),
-        }
     }
 
     /// Of the costs where the slots hold the same, the greatest.
@@ -372,21 +350,6 @@ impl Fitting<'_> {
             );
         }
         Ok(())
-    }
-}
-
-/// Returns whether there is room for a guard that shuts out this much, after the weakest was dropped if that
-/// shuts out less.
-fn make_room(shut_out: i64, guards: &mut ArrayVec<Guard, MOST_GUARDS>) -> bool
-    ensures { All (Contains guards.old.items) guards.new.items }
-{
-    if !guards.is_full() {
-        return true;
-    }
-    let strengths = guards.iter().map(|guard| guard.shut_out).enumerate();
-    match strengths.min_by_key(|(_, strength)| *strength) {
-        Some((weakest, strength)) if strength < shut_out => guards.pop_at(weakest).is_some(),
-        _ => false,
     }
 }
 

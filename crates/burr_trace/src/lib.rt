@@ -3,17 +3,18 @@
 //! trusted: what is accepted is accepted by the verifier alone.
 //!
 //! # Promised
-//! - `Sightings::fill` returns the plan text of an `Unframed` of burr_lines. Any lines may stand in place
-//!   of a line that ends by the word `auto`, and no other line differs (`IsFilledIn` of burr_lines).
-//! - `Questions` tries each list of answers once and leaves no list out (`IsNext`, `BeginsAgain`).
-//! - A form gives each number that was seen, else a range has the least and the greatest (`IsFitOf`). No
-//!   guard was negative (`AreGuards`), and the form of a cost is at least each greatest cost (`IsAbove`).
-//! - `Labels::of`, `Arrivals::close`, `trace_of`, `new`, `add_run` and `fill` of `Sightings`, and `text`,
-//!   `note` and `ask` of `Questions` allocate. They return `AllocError` if memory runs out.
+//! - What `Sightings::fill` gives is the plan text of an `Unframed` of burr_lines, but any lines may
+//!   stand in place of a line that ends by the word `auto` (`IsFilledIn` of burr_lines), since
+//!   `Unframed::with` of burr_lines makes it.
+//! - Beyond that it promises nothing but safety. Memory is taken by `Labels::of`, `Arrivals::close`,
+//!   `trace_of`, `Sightings::new` and its `add_run` and `fill`, and by `text`, `note` and `ask` of
+//!   `Questions`; they answer `AllocError` where it is refused.
 //!
 //! # Tested only
-//! - No contract says what the crate reports of each label of a run (`Labels`, `Arrivals`, `Sightings`,
-//!   `trace_of`), which costs are the greatest, or which frames it finds to put in place of `auto`.
+//! - No contract says what it tells of each label of a run (`Labels`, `Arrivals`, `Sightings`,
+//!   `trace_of`), or which lists of answers are tried (`Questions`).
+//! - Nor does one say which frames it finds, and so what is put in place of `auto`. So no must-fail
+//!   edit stands in the gate.
 #![tactic(auto)]
 
 mod arrivals;

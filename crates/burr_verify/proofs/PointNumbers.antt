@@ -1,19 +1,17 @@
--- Numbers of a state at a point: a slot more, places that are small, and the point that is completed.
-use Rattle.std.proofs.Common.{◌≡◌, ◌⊎◌, ◌<◌, ◌+◌, ℕ, zero, suc, ℤ, List, [], ◌∷◌, ◌++◌, length, get_or, take, Option, Some, None, refl, sym, ap, subst, ◌∙◌, inl, inr, arith, add-one}
-use Rattle.std.specs.Prelude.{map, reverse, slice_set, slice_index_or}
+-- Numbers of a state at a point: a slot more, and places that are small.
+use Rattle.std.proofs.Common.{◌≡◌, ◌⊎◌, ◌<◌, ◌+◌, ℕ, zero, suc, ℤ, List, [], ◌∷◌, ◌++◌, length, get_or, Option, Some, None, refl, sym, ap, subst, ◌∙◌, inl, inr, arith}
+use Rattle.std.specs.Prelude.{reverse, slice_set, slice_index_or}
 use Rattle.std.proofs.lemmas.Bool.{cases_order}
-use Rattle.std.proofs.lemmas.Int.{ints}
 use Rattle.std.proofs.lemmas.List.{get_or-set_same, get_or-set_other, map-append, reverse-append}
-use Rattle.std.proofs.lemmas.List.Elements.{All-head, All-tail}
 use Rattle.burr_code.specs.declared.placement.Placement.{Placement}
 use Rattle.burr_code.specs.declared.placement.Placement.TheVariants.{Apart, On}
-use Rattle.burr_forms.specs.Rules.Forms.{AllNear, Form, IsNear, Point, value, values}
+use Rattle.burr_forms.specs.Rules.Forms.{Form, Point, value, values}
 use Rattle.burr_container.specs.Rules.Plans.{FormCell}
 use Rattle.burr_container.specs.Views.Refs.{placement_view, IsSmallPlace}
 use Rattle.burr_frames.specs.Rules.SpaceRules.{AllSmallPlaces}
 use Rattle.burr_frames.specs.Rules.States.{AbstractState}
 use Rattle.burr_verify.specs.declared.point_state.PointState.{PointState}
-use Rattle.burr_verify.specs.Views.PointNumbers.{AreNumbersAt, completed, nearest}
+use Rattle.burr_verify.specs.Views.PointNumbers.{AreNumbersAt}
 
 -- the slots as far as v are as wanted, and the next one is set so
 pub one_more : (Wanted : ℕ → Option ℤ) (slots : List (Option ℤ)) (v : ℕ) (x : Option ℤ) → v < length slots → ((n : ℕ) → n < v → get_or slots n None ≡ Wanted n)
@@ -48,51 +46,6 @@ reverse_values point [] = refl
 reverse_values point (f ∷ forms) =
     reverse-append (value point f ∷ []) (values point forms) ∙ ap (λ (xs : List ℤ). xs ++ value point f ∷ []) (reverse_values point forms)
     ∙ sym (map-append (value point) (reverse forms) (f ∷ [])) ∙ sym (ap (λ (fs : List Form). values point fs) (reverse-append (f ∷ []) forms))
-
--- where the point has no number, each is the lowest of its range
-no_numbers : (ranges : List (ℤ × ℤ)) → completed ranges [] ≡ map (λ range. range.0) ranges
-no_numbers [] = refl
-no_numbers (range ∷ ranges) = refl
-
--- where there is no range, there is no number
-no_ranges : (point : Point) → completed [] point ≡ []
-no_ranges [] = refl
-no_ranges (x ∷ point) = refl
-
--- one range more, and so one number more
-completed_more : (ranges : List (ℤ × ℤ)) (point : Point) (n : ℕ) (d : ℤ × ℤ) → n < length ranges
-    → completed (take (suc n) ranges) point ≡ completed (take n ranges) point ++ get_or point n (get_or ranges n d).0 ∷ []
-completed_more [] point n d less = absurd (omega (arith, less))
-completed_more (range ∷ ranges) [] zero d less = refl
-completed_more (range ∷ ranges) (x ∷ point) zero d less = ap (λ (xs : List ℤ). x ∷ xs) (no_ranges point)
-completed_more (range ∷ ranges) [] (suc n) d less =
-    ap (λ (xs : List ℤ). range.0 ∷ xs) (sym (no_numbers (take (suc n) ranges)) ∙ completed_more ranges [] n d (omega (arith, less)) ∙ ap (λ (xs : List ℤ). xs ++ (get_or ranges n d).0 ∷ []) (no_numbers (take n ranges)))
-completed_more (range ∷ ranges) (x ∷ point) (suc n) d less = ap (λ (xs : List ℤ). x ∷ xs) (completed_more ranges point n d (omega (arith, less)))
-
--- and so with the nearest of each
-pub nearest_more : (ranges : List (ℤ × ℤ)) (point numbers : Point) (n : ℕ) (d : ℤ × ℤ) → n < length ranges
-    → numbers ≡ map nearest (completed (take n ranges) point)
-    → numbers ++ nearest (get_or point n (get_or ranges n d).0) ∷ [] ≡ map nearest (completed (take (n + 1) ranges) point)
-nearest_more ranges point numbers n d less are =
-    let next = get_or point n (get_or ranges n d).0 in
-    ap (λ (xs : List ℤ). xs ++ nearest next ∷ []) are
-    ∙ sym (map-append nearest (completed (take n ranges) point) (next ∷ []))
-    ∙ ap (map nearest) (sym (completed_more ranges point n d less) ∙ ap (λ (k : ℕ). completed (take k ranges) point) (sym (add-one n)))
-
--- a number that is near is the nearest
-same_number : (x : ℤ) → IsNear x → nearest x ≡ x
-same_number x near = grind (arith, ints)
-
-pub all_same : (point : Point) → AllNear point → map nearest point ≡ point
-all_same [] near = refl
-all_same (x ∷ point) near = ap (λ (y : ℤ). y ∷ map nearest point) (same_number x (All-head IsNear x point near)) ∙ ap (λ (xs : List ℤ). x ∷ xs) (all_same point (All-tail IsNear x point near))
-
--- a point with a number for each range needs no other
-pub whole_point : (ranges : List (ℤ × ℤ)) (point : Point) → length point ≡ length ranges → completed ranges point ≡ point
-whole_point [] [] many = refl
-whole_point [] (x ∷ point) many = absurd (omega (arith, many))
-whole_point (range ∷ ranges) [] many = absurd (omega (arith, many))
-whole_point (range ∷ ranges) (x ∷ point) many = ap (λ (xs : List ℤ). x ∷ xs) (whole_point ranges point (omega (arith, many)))
 
 -- numbers at a point that is the same
 pub at_same : (s : AbstractState) (here there : Point) (n : PointState) → here ≡ there → AreNumbersAt s here n → AreNumbersAt s there n

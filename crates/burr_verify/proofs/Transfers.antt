@@ -5,20 +5,19 @@ use Rattle.burr_voxels.specs.declared.cell.Cell.{Cell}
 use Rattle.burr_voxels.specs.declared.direction.Direction.{Direction}
 use Rattle.burr_code.specs.declared.instr.Instr.{Instr}
 use Rattle.burr_code.specs.declared.instr.Instr.TheVariants as instr
-use Rattle.burr_code.specs.Instruction.{Instruction, Step, Aside, MovesNoPiece, spelled, StandsAt}
+use Rattle.burr_code.specs.Instruction.{MovesNoPiece, spelled, StandsAt}
 use Rattle.burr_code.specs.Meaning.{meaning, NoneStandsAt}
-use Rattle.burr_code.proofs.Common.OneAnswer.{IsOne}
 use Rattle.burr_code.proofs.Common.Reading.{one_stands_at}
 use Rattle.burr_container.specs.Rules.Plans.{Frame}
 use Rattle.burr_frames.specs.Rules.FramedPlans.{FramedProcedure, FramedPlan}
 use Rattle.burr_frames.specs.Rules.Looks.{RuleLooks}
 use Rattle.burr_frames.specs.Rules.States.{AbstractState, state_of}
 use Rattle.burr_frames.specs.Rules.Transfer.{Transfer}
-use Rattle.burr_frames.specs.Rules.Verdicts.{Verdict, Breaks, FallsThrough, NoSuccessor}
-use Rattle.burr_frames.proofs.Common.FineVerdicts.{IsFine, free_of_aside, free_of_step, one_free_aside, one_free_step}
-use Rattle.burr_frames.proofs.Common.Unique.{one_verdict}
-use Rattle.burr_verify.specs.Rules.Fronts.{PassesTo, ComesTo, GoesOver, GoesFreely, FreeTransfer, falling_out}
+use Rattle.burr_frames.specs.Rules.Verdicts.{Verdict, Breaks}
+use Rattle.burr_frames.proofs.Common.FineVerdicts.{IsFine}
+use Rattle.burr_verify.specs.Rules.Fronts.{PassesTo}
 use Rattle.burr_verify.specs.Rules.WellFramed.{Annotated, after, IsLabelled, HasNoLabel, Enters, FallsOut}
+use Rattle.burr_verify.specs.Views.Judgements.{NamesNoRule}
 use Rattle.burr_verify.proofs.OnePass.{OneFrame}
 use Rattle.burr_verify.proofs.PassCuts.{spelled_some}
 
@@ -43,61 +42,9 @@ no_look homes s (instr.Step d) none = absurd none
 no_look homes s (instr.Aside d tray) none = absurd none
 no_look homes s i none = refl
 
--- Moves that nothing is in the way of
-
-pub by_free : (homes : List (List Cell)) (plan : FramedPlan) (n : ℕ) (here : FramedProcedure) (s : AbstractState) (given told : Instr) (v w : Verdict)
-    → given ≡ told → w ≡ v → FreeTransfer homes plan n here s (meaning told) v → FreeTransfer homes plan n here s (meaning given) w
-by_free homes plan n here s given told v w is same rule =
-    subst (λ (i : Instr). FreeTransfer homes plan n here s (meaning i) w) (sym is)
-    (subst (λ (u : Verdict). FreeTransfer homes plan n here s (meaning told) u) (sym same) rule)
-
--- what is neither `step` nor `aside` has its rule's verdict
-pub free_in_place : (homes : List (List Cell)) (plan : FramedPlan) (n : ℕ) (here : FramedProcedure) (s : AbstractState) (i : Instr) (v : Verdict)
-    → ((d : Direction) → i ≡ instr.Step d → ⊥) → ((d : Direction) (tray : ℕ) → i ≡ instr.Aside d tray → ⊥)
-    → Transfer homes plan n here s (meaning i) v → FreeTransfer homes plan n here s (meaning i) v
-free_in_place homes plan n here s (instr.Step d) v step aside rule = absurd (step d refl)
-free_in_place homes plan n here s (instr.Aside d tray) v step aside rule = absurd (aside d tray refl)
-free_in_place homes plan n here s i v step aside rule = rule
-
-pub one_free : (homes : List (List Cell)) (plan : FramedPlan) (n : ℕ) (here : FramedProcedure) (s : AbstractState) (i : Instruction)
-    → IsOne (FreeTransfer homes plan n here s i)
-one_free homes plan n here s (Step direction) = one_free_step s direction
-one_free homes plan n here s (Aside direction tray) = one_free_aside s tray
-one_free homes plan n here s i = one_verdict homes plan n here s i
-
-fine : (v : Verdict) (out : Option AbstractState) → FallsOut v out → IsFine v
-fine (Breaks b) out falls = absurd falls
-fine (FallsThrough s) out falls = tt
-fine NoSuccessor out falls = tt
-
--- the verdict of a rule that holds
-pub free_held : (homes : List (List Cell)) (plan : FramedPlan) (n : ℕ) (here : FramedProcedure) (s : AbstractState) (i : Instruction) (v : Verdict)
-    (out : Option AbstractState) → FallsOut v out → Transfer homes plan n here s i v → FreeTransfer homes plan n here s i v
-free_held homes plan n here s (Step direction) v out falls rule = free_of_step homes s direction v (fine v out falls) rule
-free_held homes plan n here s (Aside direction tray) v out falls rule = free_of_aside homes s direction tray v (fine v out falls) rule
-free_held homes plan n here s i v out falls rule = rule
-
-pub fallen_out : (v : Verdict) (out : Option AbstractState) → FallsOut v out → out ≡ falling_out v
-fallen_out (Breaks b) out falls = absurd falls
-fallen_out (FallsThrough s) out is = is
-fallen_out NoSuccessor out is = is
-
--- where the pass goes over an instruction, nothing is in its way
-pub goes_freely : (homes : List (List Cell)) (plan : FramedPlan) (n : ℕ) (here : FramedProcedure) (pc : ℕ) (out : Option AbstractState)
-    → GoesOver homes plan n here pc out → GoesFreely homes plan n here pc out
-goes_freely homes plan n here pc out (s, i, v, comes, stands, rule, falls) =
-    (s, i, v, comes, stands, free_held homes plan n here s i v out falls rule, fallen_out v out falls)
-
--- what falls out where the code that came to the place went over the instruction there
-pub left_freely : (homes : List (List Cell)) (plan : FramedPlan) (n : ℕ) (here : FramedProcedure) (pc : ℕ) (i : Instr)
-    (before left out : Option AbstractState) → StandsAt here.code pc (meaning i)
-    → ((s : AbstractState) → ComesTo homes plan n here pc s → before ≡ Some s)
-    → ((s : AbstractState) (v : Verdict) → before ≡ Some s → FreeTransfer homes plan n here s (meaning i) v → left ≡ falling_out v)
-    → GoesFreely homes plan n here pc out → left ≡ out
-left_freely homes plan n here pc i before left out stands come over (s, j, v, comes, there, free, is) =
-    over s v (come s comes)
-    (subst (λ (k : Instruction). FreeTransfer homes plan n here s k v) (one_stands_at here.code pc j (meaning i) there stands) free)
-    ∙ sym is
+pub fine : (v : Verdict) → NamesNoRule v → IsFine v
+fine (Breaks b) none = absurd none
+fine v none = tt
 
 -- What falls in
 

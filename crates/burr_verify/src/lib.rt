@@ -18,14 +18,11 @@
 //! - `Accepted::cost` is the cost of main's first frame, which is within the budget. No run makes
 //!   more steps, whatever is answered (`a_run_makes_no_more_steps_than_it_costs` of burr_bench).
 //!   `plan`, `assembly` and `blocking` are those that it was made from.
-//! - `state_before` returns the state in which the pass over the code comes to an instruction, and
-//!   `state_after` the state that falls out of it, or `None` if none does or no instruction stands
-//!   there. `state_after` judges no move: if pieces are in each other's way, they are where the move
-//!   would take them. Both make no look; if a rule is broken earlier, they may return any state.
-//! - `PointState::at` returns the numbers of a state at any point (`AreNumbersAt`). The lowest number
-//!   of its range stands for each number that the point lacks, and each number is taken
-//!   as the nearest within ±32,767. `PointState::new` holds nothing (`IsBlank`).
-//! - An `Offset` prints its three numbers with a space between two.
+//! - `state_before` gives the state in which the pass over the code comes to an instruction, and
+//!   `state_after` the one that falls out of it where its rule holds. Both do so without a look;
+//!   where a rule is broken before, they may give any.
+//! - `PointState::at` gives the numbers of a state at a point: what the state's forms come to there
+//!   (`AreNumbersAt`).
 //!
 //! Laws of the definitions, for whatever pieces, and for every plan whose labels stand at rising
 //! places of its codes, as those of a container do (`a_fitting_plan_is_from_a_container`):

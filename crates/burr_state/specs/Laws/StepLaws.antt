@@ -1,5 +1,5 @@
 -- What holds of each instruction and of each call of the bench.
-use Rattle.std.specs.Prelude.{◌≡◌, ℤ, length, Option, Result, Ok, Err}
+use Rattle.std.specs.Prelude.{◌≡◌, ℤ, Option, Result, Ok, Err}
 use Rattle.burr_code.specs.Instruction.{Instruction}
 use Rattle.burr_state.specs.declared.effect.Mode.TheVariants.{Trapped}
 use Rattle.burr_state.specs.declared.effect.Trap.{Trap}
@@ -34,9 +34,3 @@ abbrev pub CallIsOneStep : Type 0
 CallIsOneStep =
     (setup : Setup) (s new : BenchState) (answer : Option ℤ) (result : Result Progress Trap)
     → Called setup s answer result new → AfterCall s result new
-
--- no call of the bench changes how many pieces there are
-abbrev pub PieceCountStays : Type 0
-PieceCountStays =
-    (setup : Setup) (s new : BenchState) (answer : Option ℤ) (result : Result Progress Trap)
-    → Called setup s answer result new → length new.places ≡ length s.places

@@ -2,13 +2,12 @@
 -- check fails.
 use Rattle.std.specs.Prelude.{◌≡◌, ◌≢◌, ◌⊎◌, ℕ, ◌<◌, List, [], ◌∷◌, length, Option, Some, None}
 use Rattle.burr_voxels.specs.declared.cell.Cell.{Cell}
-use Rattle.burr_code.specs.Instruction.{Instruction, Step, Aside, StandsAt}
+use Rattle.burr_code.specs.Instruction.{Instruction, StandsAt}
 use Rattle.burr_container.specs.Rules.Plans.{Frame}
 use Rattle.burr_frames.specs.Rules.FramedPlans.{FramedProcedure, FramedPlan}
 use Rattle.burr_frames.specs.Rules.States.{AbstractState, state_of}
 use Rattle.burr_frames.specs.Rules.Transfer.{Transfer}
-use Rattle.burr_frames.specs.Rules.Verdicts.{Rest, Broken, Verdict, Breaks, FallsThrough, arriving, no_successor}
-use Rattle.burr_frames.specs.Views.Moving.{free_step, free_aside}
+use Rattle.burr_frames.specs.Rules.Verdicts.{Broken, Verdict, Breaks, arriving, no_successor}
 use Rattle.burr_verify.specs.Rules.Pass.{FailedCheck, Refuses, broken, refused, Hides}
 use Rattle.burr_verify.specs.Rules.WellFramed.{Annotated, after, IsLabelled, HasNoLabel, Enters, FallsOut, IsBefore}
 use Rattle.burr_frames.specs.declared.rule.Rule.TheVariants as rules
@@ -88,25 +87,3 @@ abbrev pub GoesOver : List (List Cell) → FramedPlan → ℕ → FramedProcedur
 GoesOver homes plan n here pc out =
     (s : AbstractState) × (i : Instruction) × (verdict : Verdict) × ComesTo homes plan n here pc s
     × StandsAt here.code pc i × Transfer homes plan n here s i verdict × FallsOut verdict out
-
--- the verdict of an instruction where nothing is in the way of a move: no pair of pieces is judged,
--- nor whether the grip and the trays allow the move
-abbrev pub FreeTransfer : List (List Cell) → FramedPlan → ℕ → FramedProcedure → AbstractState
-    → Instruction → Rest
-FreeTransfer homes plan n here s (Step direction) = free_step s direction
-FreeTransfer homes plan n here s (Aside direction tray) = free_aside s tray
-FreeTransfer homes plan n here s i = Transfer homes plan n here s i
-
--- the state that falls out after a verdict; none after a broken rule
-abbrev pub falling_out : Verdict → Option AbstractState
-falling_out (FallsThrough s) = Some s
-falling_out verdict = None
-
--- The pass comes to the instruction at pc, and this state falls out of it, if one does, where
--- nothing is in the way of a move.
-abbrev pub GoesFreely : List (List Cell) → FramedPlan → ℕ → FramedProcedure → ℕ
-    → Option AbstractState → Type 0
-GoesFreely homes plan n here pc out =
-    (s : AbstractState) × (i : Instruction) × (verdict : Verdict) × ComesTo homes plan n here pc s
-    × StandsAt here.code pc i × FreeTransfer homes plan n here s i verdict
-    × (out ≡ falling_out verdict)

@@ -32,6 +32,11 @@ verdict_of s (Ok successors.FallsThrough) = FallsThrough s
 verdict_of s (Ok successors.None) = NoSuccessor
 verdict_of s (Err b) = Breaks (broken_of b)
 
+-- the verdict of an instruction whose rule holds
+abbrev pub NamesNoRule : Verdict → Type 0
+NamesNoRule (Breaks broken) = ⊥
+NamesNoRule verdict = ⊤
+
 -- The result of a part of the checks: where they hold, the part passes if what follows passes; and
 -- else the part refuses, whatever would follow.
 abbrev pub AnswersPart : (Rest → Rest) → Result ⊤ Refusal → Type 0

@@ -5,4 +5,4 @@ use Rattle.burr_io.proofs.line_writer.flush_front.Goals as goal
 pub loop-left-preserved : goal.loop-left-preserved
 loop-left-preserved g c =
     Flushes-turn c.args.count c.loop-left.left c.in_ok-taken.taken c.args.held.now.items c.loop-left.held.items c.drop_front.new.held.items c.loop-left.invariant.0
-    c.loop-left.invariant.1 (search rules) (search rules) (search rules) (search rules) (search rules) c.requires c.deref.result.now c.deref.ensures.0 c.in_ok-taken.ensures.some
+    c.loop-left.invariant.1 (search rules) (search rules) (search rules) (search rules)

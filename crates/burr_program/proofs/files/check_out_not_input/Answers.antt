@@ -1,4 +1,4 @@
-use Rattle.std.proofs.Common.{rules, ◌<◌, length, refl}
+use Rattle.std.proofs.Common.{rules, ◌≡◌, ◌<◌, ℕ, length, refl}
 use Rattle.std.proofs.lemmas.List.{get_or-map, length-map}
 use Rattle.burr_program.proofs.files.check_out_not_input.Goals as goal
 

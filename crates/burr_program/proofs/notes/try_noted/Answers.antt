@@ -9,7 +9,7 @@ use Rattle.burr_program.proofs.notes.try_noted.Goals as goal
 
 pub returns-in-Ok-clause-ok : goal.returns-in-Ok-clause-ok
 returns-in-Ok-clause-ok g c =
-    all_kept (TryEnds c.args.plan.container.now (g.B.Blocking.subject c.args.tables.now) c.args.answers.now) _ _ c.into_bytes.result.items c.in-Ok.status c.new-sheet.ensures.taken c.into_bytes.ensures c.in-Ok.ensures.done
+    all_kept (TryEnds c.args.plan.container.now (g.B.Blocking.subject c.args.tables.now) c.args.answers.now) _ _ c.into_bytes.result.items c.in-Ok.status c.new-sheet.ensures c.into_bytes.ensures c.in-Ok.ensures.done
 
 pub returns-clause-err : goal.returns-clause-err
 returns-clause-err g c =

@@ -1,4 +1,5 @@
-use Rattle.std.proofs.Common.{inl}
+use Rattle.std.proofs.Common.{ap, refl, inl, inr}
+use Rattle.burr_judge.specs.Statuses.{code_of}
 use Rattle.burr_program.proofs.Replies.{reply_done}
 use Rattle.burr_program.proofs.program.answer.Goals as goal
 

@@ -1,4 +1,4 @@
-use Rattle.burr_program.proofs.Finishing.{faulted}
+use Rattle.burr_program.proofs.Finishing.{faulted, flushed, flush_fails}
 use Rattle.burr_program.proofs.program.finish.Goals as goal
 
 pub returns-in-Err : goal.returns-in-Err

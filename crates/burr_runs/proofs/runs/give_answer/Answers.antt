@@ -1,14 +1,10 @@
-use Rattle.std.proofs.Common.{◌≡◌, ◌∷◌, rules, to_z, of_z, w32, subst, subst₂, sym, Some, ℤ, List}
+use Rattle.std.proofs.Common.{◌≡◌, ◌∷◌, rules, to_z, of_z, w32, subst, sym, Some, ℤ, List}
 use Rattle.std.proofs.lemmas.List.{nil_from_length}
-use Rattle.burr_state.specs.declared.effect.Closing.TheVariants.{Waiting}
-use Rattle.burr_state.specs.Rules.Calls.{ClosesAt}
-use Rattle.burr_state.specs.Rules.Run.{IsGoing}
 use Rattle.burr_state.specs.Rules.Step.{Called}
 use Rattle.burr_state.specs.Views.Benches.{setup_of}
 use Rattle.burr_runs.specs.Views.AfterRuns.{HasComeOn}
 use Rattle.burr_runs.proofs.StepByStep.{answer_given}
-use Rattle.burr_runs.proofs.AfterRuns.{answer_on, asked_there, waits_there}
-use Rattle.burr_runs.proofs.Shown.{answer_turn}
+use Rattle.burr_runs.proofs.AfterRuns.{answer_on, waits_there}
 use Rattle.burr_runs.proofs.runs.give_answer.Goals as goal
 
 pub returns-clause-is : goal.returns-clause-is
@@ -36,23 +32,3 @@ returns-clause-stands g c =
 pub returns-in_default-clause-stands : goal.returns-in_default-clause-stands
 returns-in_default-clause-stands g c =
     waits_there (g.R.Runner.benched c.args.runner.now) c.args.low c.args.high c.args.answers.now (nil_from_length c.args.answers.now c.in_default.ensures.cases) (record { running = c.requires.running; within = c.requires.within }) c.requires.asks
-
-pub returns-clause-leads : goal.returns-clause-leads
-returns-clause-leads g c =
-    let b = g.R.Runner.benched c.args.runner.now in
-    let new = g.R.Runner.benched c.step.new.self in
-    let answer = c.in-Some.answer.now in
-    let first : c.args.answers.now ≡ answer ∷ c.in-Some.left.now = search rules in
-    let same : to_z w32 (of_z w32 answer) ≡ answer = search rules in
-    let called = subst (λ (n : ℤ). Called (setup_of b) b.state (Some n) c.step.result new.state) same c.step.ensures.called in
-    answer_turn b new c.args.low c.args.high answer c.step.result c.args.answers.now c.in-Some.left.now (record { running = c.requires.running; within = c.requires.within }) c.requires.asks called first
-
-pub returns-in_default-clause-leads : goal.returns-in_default-clause-leads
-returns-in_default-clause-leads g c =
-    let b = g.R.Runner.benched c.args.runner.now in
-    let going : IsGoing b.program.budget b.state = record { running = c.requires.running; within = c.requires.within } in
-    let same_low : to_z w32 (of_z w32 c.args.low) ≡ c.args.low = search rules in
-    let same_high : to_z w32 (of_z w32 c.args.high) ≡ c.args.high = search rules in
-    let closes : ClosesAt (setup_of b) b.program.budget b.state c.args.answers.now (Waiting c.args.low c.args.high) =
-    (going, asked_there b c.args.low c.args.high going c.requires.asks, nil_from_length c.args.answers.now c.in_default.ensures.cases) in
-    subst₂ (λ (low high : ℤ). ClosesAt (setup_of b) b.program.budget b.state c.args.answers.now (Waiting low high)) (sym same_low) (sym same_high) closes

@@ -9,7 +9,6 @@ use Rattle.burr_runs.specs.declared.text_runs.Outcome.{Outcome}
 use Rattle.burr_runs.specs.Rules.Output.{outcome_of}
 use Rattle.burr_runs.specs.Views.Running.{FailsInRun, ClosesPart, PutsSheet, run_state}
 use Rattle.burr_runs.specs.Views.AfterRuns.{IsAtRunEnd}
-use Rattle.burr_runs.specs.Views.Shown.{SeesFront, SeesRun}
 use Rattle.burr_text.proofs.Common.Tests.{on_err}
 use Rattle.burr_runs.proofs.StepByStep.{sheet_of, fails_in_sheet, fails_at_close}
 use Rattle.burr_runs.proofs.runs.run.Goals as goal
@@ -53,16 +52,3 @@ returns-in_err-closing-clause-under_way g c = on_err c.from_residual.result c.in
 pub returns-in_err-close-clause-under_way : goal.returns-in_err-close-clause-under_way
 returns-in_err-close-clause-under_way g c =
     on_err c.from_residual-in_err-close.result (inr (outcome_of c.in_ok-closing.closing, c.in_ok-closing.ensures.end))
-
-pub returns-clause-seen : goal.returns-clause-seen
-returns-clause-seen g c =
-    subst (λ (o : Outcome). SeesRun g.O.Observer.has_seen c.args.observer.now c.run_to_close.new.observer (g.R.Runner.benched c.args.runner.now) c.args.answers.now o) (sym c.outcome.ensures) c.in_ok-closing.ensures.seen
-
-pub returns-in_err-closing-clause-seen_front : goal.returns-in_err-closing-clause-seen_front
-returns-in_err-closing-clause-seen_front g c = on_err c.from_residual.result c.in_err-closing.ensures.seen_front
-
-pub returns-in_err-close-clause-seen_front : goal.returns-in_err-close-clause-seen_front
-returns-in_err-close-clause-seen_front g c =
-    let (last, closing, closes, same, sees) = c.in_ok-closing.ensures.seen in
-    let front : SeesFront g.O.Observer.has_seen c.args.observer.now c.run_to_close.new.observer (g.R.Runner.benched c.args.runner.now) c.args.answers.now = (last, sees) in
-    on_err c.from_residual-in_err-close.result front

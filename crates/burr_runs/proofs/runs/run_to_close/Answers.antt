@@ -11,20 +11,13 @@ use Rattle.std.specs.declared.ops.ControlFlow.{ControlFlow}
 use Rattle.burr_runs.specs.Rules.Output.{outcome_of}
 use Rattle.burr_runs.specs.Views.Running.{TurnIs, run_state}
 use Rattle.burr_runs.specs.Views.AfterRuns.{TurnStands}
-use Rattle.burr_runs.specs.Views.Shown.{SeesFront, TurnLeads}
 use Rattle.burr_text.proofs.Common.Tests.{on_err}
 use Rattle.burr_runs.proofs.StepByStep.{still_running, closes_after, fails_after, parts_join}
 use Rattle.burr_runs.proofs.AfterRuns.{still_here, end_there, come_further, end_further, in_run_further}
-use Rattle.burr_runs.proofs.Shown.{none_seen, sees_here, sees_run, turns_on}
 use Rattle.burr_runs.proofs.runs.run_to_close.Goals as goal
 
 pub loop-answers-init : goal.loop-answers-init
-loop-answers-init g c = (
-  c.requires.in_step,
-  still_here (g.R.Runner.benched c.args.runner.now) c.args.answers.now,
-  ([], Appends-nil _, λ motions steps closing run. (motions, run, refl)),
-  none_seen g.O.Observer.has_seen c.args.observer.now (g.R.Runner.benched c.args.runner.now) c.args.answers.now,
-)
+loop-answers-init g c = (c.requires.in_step, still_here (g.R.Runner.benched c.args.runner.now) c.args.answers.now, ([], Appends-nil _, λ motions steps closing run. (motions, run, refl)))
 
 pub returns-then-eq-clause-ok : goal.returns-then-eq-clause-ok
 returns-then-eq-clause-ok g c =
@@ -83,9 +76,6 @@ loop-answers-preserved g c =
       turn.0.in_step,
       come_further (g.R.Runner.benched c.args.runner.now) now new c.args.answers.now c.loop-answers.answers.now c.in-Continue.left.now c.loop-answers.invariant.1 stands,
       parts_join g.W.Sink (run_state (g.R.Runner.benched c.args.runner.now) c.args.answers.now c.args.sheet.now) here (run_state new c.in-Continue.left.now c.take_turn.new.sheet) _ _ _ c.loop-answers.invariant.2 turn.0.puts,
-      turns_on g.O.Observer.has_seen c.args.observer.now c.observe.new.self (g.R.Runner.benched c.args.runner.now) now c.args.answers.now (now.state, c.loop-answers.answers.now) (new.state, c.in-Continue.left.now) c.loop-answers.invariant.1.same
-          (sees_here g.O.Observer.has_seen c.args.observer.now c.loop-answers.observer c.observe.new.self (g.R.Runner.benched c.args.runner.now) now c.args.answers.now c.loop-answers.answers.now c.state.result.now c.loop-answers.invariant.3 c.state.ensures c.observe.ensures)
-          (subst (λ (t : ControlFlow Closing (Bor (List ℤ))). TurnLeads now c.loop-answers.answers.now new t) c.in-Continue.is c.in_ok-left.ensures.leads),
     )
 
 pub returns-then-eq-clause-unfailed : goal.returns-then-eq-clause-unfailed
@@ -101,43 +91,3 @@ returns-in-Break-clause-unfailed g c =
     let here = run_state now c.loop-answers.answers.now c.loop-answers.sheet in
     let turn = subst (λ (t : ControlFlow Closing (Bor (List ℤ))). TurnIs g.W.Sink c.loop-answers.sink c.take_turn.new.sink here new c.take_turn.new.sheet t) c.in-Break.is c.in_ok-left.ensures.ok in
     ap (λ (u : UnderWay). u.failed) turn.1 ∙ c.loop-answers.invariant.0.unfailed
-
-pub returns-then-eq-clause-seen : goal.returns-then-eq-clause-seen
-returns-then-eq-clause-seen g c =
-    let first = g.R.Runner.benched c.args.runner.now in
-    let now = g.R.Runner.benched c.loop-answers.runner in
-    let left = c.loop-answers.answers.now in
-    let sees = sees_here g.O.Observer.has_seen c.args.observer.now c.loop-answers.observer c.observe.new.self first now c.args.answers.now left c.state.result.now c.loop-answers.invariant.3 c.state.ensures c.observe.ensures in
-    let ended : now.state.mode ≡ Ended = search rules in
-    sees_run g.O.Observer.has_seen c.args.observer.now c.observe.new.self first now c.args.answers.now left closings.Apart c.loop-answers.invariant.1.same sees ended
-
-pub returns-then-steps-budget-clause-seen : goal.returns-then-steps-budget-clause-seen
-returns-then-steps-budget-clause-seen g c =
-    let first = g.R.Runner.benched c.args.runner.now in
-    let now = g.R.Runner.benched c.loop-answers.runner in
-    let left = c.loop-answers.answers.now in
-    let sees = sees_here g.O.Observer.has_seen c.args.observer.now c.loop-answers.observer c.observe.new.self first now c.args.answers.now left c.state.result.now c.loop-answers.invariant.3 c.state.ensures c.observe.ensures in
-    let used : now.state.steps ≡ first.program.budget = ap (λ (s : BenchState). s.steps) (sym c.state-in-loop-answers-2.ensures) ∙ sym c.steps.ensures ∙ c.if-steps-budget.true ∙ c.requires.budget in
-    let on : now.state.mode ≢ Ended = search rules in
-    let budget = used ∙ ap (λ (p : Program). p.budget) (sym c.loop-answers.invariant.1.same.program) in
-    sees_run g.O.Observer.has_seen c.args.observer.now c.observe.new.self first now c.args.answers.now left closings.Stopped c.loop-answers.invariant.1.same sees
-    (still_running now.state c.loop-answers.invariant.0.mode on, budget)
-
-pub returns-in_err-left-clause-seen_front : goal.returns-in_err-left-clause-seen_front
-returns-in_err-left-clause-seen_front g c =
-    let first = g.R.Runner.benched c.args.runner.now in
-    let now = g.R.Runner.benched c.loop-answers.runner in
-    let left = c.loop-answers.answers.now in
-    let sees = sees_here g.O.Observer.has_seen c.args.observer.now c.loop-answers.observer c.observe.new.self first now c.args.answers.now left c.state.result.now c.loop-answers.invariant.3 c.state.ensures c.observe.ensures in
-    let front : SeesFront g.O.Observer.has_seen c.args.observer.now c.observe.new.self first c.args.answers.now = ((now.state, left), sees) in
-    on_err c.from_residual.result front
-
-pub returns-in-Break-clause-seen : goal.returns-in-Break-clause-seen
-returns-in-Break-clause-seen g c =
-    let first = g.R.Runner.benched c.args.runner.now in
-    let now = g.R.Runner.benched c.loop-answers.runner in
-    let left = c.loop-answers.answers.now in
-    let sees = sees_here g.O.Observer.has_seen c.args.observer.now c.loop-answers.observer c.observe.new.self first now c.args.answers.now left c.state.result.now c.loop-answers.invariant.3 c.state.ensures c.observe.ensures in
-    let new = g.R.Runner.benched c.take_turn.new.runner in
-    let leads = subst (λ (t : ControlFlow Closing (Bor (List ℤ))). TurnLeads now left new t) c.in-Break.is c.in_ok-left.ensures.leads in
-    sees_run g.O.Observer.has_seen c.args.observer.now c.observe.new.self first now c.args.answers.now left c.in-Break.closing c.loop-answers.invariant.1.same sees leads

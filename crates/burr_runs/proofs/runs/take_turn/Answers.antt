@@ -12,10 +12,9 @@ use Rattle.burr_state.proofs.Common.Calls.{Tells, tells}
 use Rattle.burr_state.proofs.Common.Leading.{leads_from}
 use Rattle.burr_runs.specs.Views.Running.{AnswerIs}
 use Rattle.burr_runs.specs.Views.AfterRuns.{TurnStands}
-use Rattle.burr_runs.specs.Views.Shown.{TurnLeads}
 use Rattle.burr_text.proofs.Common.Tests.{on_err}
 use Rattle.burr_runs.proofs.StepByStep.{leads_motion, leads_still, under_way, fails_at_motion, in_step_still, in_step_motion, one_step_less, trapped_run, unchanged, asked_turn}
-use Rattle.burr_runs.proofs.AfterRuns.{one_step_on, trapped_there, traps_there}
+use Rattle.burr_runs.proofs.AfterRuns.{one_step_on, trapped_there}
 use Rattle.burr_runs.proofs.runs.take_turn.Goals as goal
 
 pub returns-in-Err-clause-ok : goal.returns-in-Err-clause-ok
@@ -138,32 +137,3 @@ returns-in_err-motion-in-Ok-Went-Some-clause-under_way g c =
     let called = subst (λ (p : Progress). Called (setup_of b) b.state None (Ok p) new.state) went c.in-Ok-Went-Some.ensures.called in
     on_err c.from_residual.result
     (inl (answers, one_step_on b new answers (Some c.in-Ok-Went-Some.motion) (record { running = c.requires.running; within = c.requires.within }) c.in-Ok-Went-Some.ensures.same called))
-
-pub returns-in-Err-clause-leads : goal.returns-in-Err-clause-leads
-returns-in-Err-clause-leads g c =
-    let b = g.R.Runner.benched c.args.runner.now in
-    let new = g.R.Runner.benched c.step.new.self in
-    let told = tells (setup_of b) b.state new.state (Err c.in-Err.trap) c.requires.running c.in-Err.ensures.called in
-    traps_there b new c.args.answers.now c.in-Err.trap c.procedure.result c.pc.result (record { running = c.requires.running; within = c.requires.within })
-    c.in-Err.ensures.called told.1 (c.procedure.ensures ∙ ap (λ (s : BenchState). s.running.procedure) c.state-state.ensures) (c.pc.ensures.pc ∙ ap (λ (s : BenchState). s.running.pc) c.state-state.ensures)
-
-pub returns-in-Ok-Asks-clause-leads : goal.returns-in-Ok-Asks-clause-leads
-returns-in-Ok-Asks-clause-leads g c =
-    let b = g.R.Runner.benched c.args.runner.now in
-    let mid = g.R.Runner.benched c.step.new.self in
-    let told = subst (λ (p : Progress). Tells (setup_of b) b.state (Ok p) mid.state) c.in-Ok-Asks.field-0-is (tells (setup_of b) b.state mid.state (Ok c.in-Ok-Asks.field-0) c.requires.running c.in-Ok-Asks.ensures.called) in
-    subst (λ (x : Benched). TurnLeads x c.args.answers.now (g.R.Runner.benched c.give_answer.new.runner) c.give_answer.result) (unchanged b mid c.in-Ok-Asks.ensures.same told.1) c.give_answer.ensures.leads
-
-pub returns-in-Ok-Went-None-clause-leads : goal.returns-in-Ok-Went-None-clause-leads
-returns-in-Ok-Went-None-clause-leads g c =
-    let b = g.R.Runner.benched c.args.runner.now in
-    let new = g.R.Runner.benched c.step.new.self in
-    let went = c.in-Ok-Went-None.field-0-is ∙ ap (λ (m : Option Motion). Went m) c.in-Ok-Went-None.field-0-0-is in
-    inl (None, subst (λ (p : Progress). Called (setup_of b) b.state None (Ok p) new.state) went c.in-Ok-Went-None.ensures.called, refl)
-
-pub returns-in_ok-motion-in-Ok-Went-Some-clause-leads : goal.returns-in_ok-motion-in-Ok-Went-Some-clause-leads
-returns-in_ok-motion-in-Ok-Went-Some-clause-leads g c =
-    let b = g.R.Runner.benched c.args.runner.now in
-    let new = g.R.Runner.benched c.step.new.self in
-    let went = c.in-Ok-Went-Some.field-0-is ∙ ap (λ (m : Option Motion). Went m) c.in-Ok-Went-Some.field-0-0-is in
-    inl (Some c.in-Ok-Went-Some.motion, subst (λ (p : Progress). Called (setup_of b) b.state None (Ok p) new.state) went c.in-Ok-Went-Some.ensures.called, refl)

@@ -1,5 +1,5 @@
 -- What is left of the pass goes on, instruction by instruction, to the place.
-use Rattle.std.proofs.Common.{◌+◌, ◌∙◌, ℕ, List, Option, arith, sym, subst}
+use Rattle.std.proofs.Common.{◌+◌, ℕ, List, Option, arith, sym, subst}
 use Rattle.burr_code.specs.Instruction.{StandsAt}
 use Rattle.burr_code.specs.Meaning.{meaning, NoneStandsAt}
 use Rattle.burr_frames.specs.Rules.FramedPlans.{framed_plan}
@@ -7,7 +7,7 @@ use Rattle.burr_frames.specs.Rules.States.{AbstractState}
 use Rattle.burr_verify.specs.Rules.Fronts.{PassesTo}
 use Rattle.burr_verify.specs.Rules.WellFramed.{Enters}
 use Rattle.burr_verify.proofs.Stages.{code_read}
-use Rattle.burr_verify.proofs.Transfers.{fallen_out, free_held, goes_on, has_come, stands_there}
+use Rattle.burr_verify.proofs.Transfers.{goes_on, has_come, stands_there}
 use Rattle.burr_verify.proofs.states.state_before.Goals as goal
 
 pub loop-at-init : goal.loop-at-init
@@ -22,10 +22,7 @@ loop-at-preserved c = λ p here kept at homes rows out passes.
     let on = goes_on homes (framed_plan p) c.args.procedure.number here c.loop-at.at c.loop-at.state left.0 c.args.pc out i
     (omega (arith, c.loop-at-test.true, c.from.ensures)) stands left.1 in
     let before = c.enter.ensures p here kept at on.state on.enters in
-    let next =
-    c.go_over.ensures p here kept at homes on.state on.verdict before
-    (free_held homes (framed_plan p) c.args.procedure.number here on.state (meaning i) on.verdict on.next on.falls on.rule)
-    ∙ sym (fallen_out on.verdict on.next on.falls) in
+    let next = c.go_over.ensures p here kept at homes on.state on.verdict on.next before on.rule on.falls in
     let size = c.in_ok-instruction.ensures.stands.1 in (
       on.rows,
       subst (λ (o : Option AbstractState). PassesTo homes (framed_plan p) c.args.procedure.number here (c.loop-at.at + c.in_ok-instruction.size) o on.rows c.args.pc out) (sym next)

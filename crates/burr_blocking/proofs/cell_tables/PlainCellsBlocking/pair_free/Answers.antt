@@ -24,4 +24,4 @@ pub returns : goal.returns
 returns c = λ p q known.
     let home : ℕ → List Cell = home_at (homes_of c.args.self.now) in
     at_homes c.meets.result c.args.displacement c.home.result.now c.home-2.result.now (home p) (home q) c.args.direction
-    (c.home.ensures.home ∙ ap home known.4.earlier) (c.home-2.ensures.home ∙ ap home known.4.later) c.meets.ensures
+    (c.home.ensures.home ∙ ap home known.0) (c.home-2.ensures.home ∙ ap home known.3) c.meets.ensures

@@ -24,7 +24,7 @@ returns-then-to-from c = (
   c.index-to.result.now,
   c.index-from.ensures,
   c.index-to.ensures,
-  inr (c.if-to-from.true, record { earlier = refl; later = refl; shift = c.sub-shift.ensures; is_turned = refl; sign = refl }),
+  record { order = omega (arith, c.if-to-from.true); shift = c.sub-shift.ensures; classes = inr (refl, refl, refl) },
 )
 
 pub returns : goal.returns
@@ -33,5 +33,5 @@ returns c = (
   c.index-to.result.now,
   c.index-from.ensures,
   c.index-to.ensures,
-  inl (omega (arith, c.if-to-from.false), record { earlier = refl; later = refl; shift = c.sub-shift.ensures; is_turned = refl; sign = refl }),
+  record { order = omega (arith, c.if-to-from.false); shift = c.sub-shift.ensures; classes = inl (refl, refl, refl) },
 )

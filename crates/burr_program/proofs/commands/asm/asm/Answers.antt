@@ -1,5 +1,6 @@
-use Rattle.std.proofs.Common.{refl, inl, arith}
+use Rattle.std.proofs.Common.{refl, inl, inr, arith}
 use Rattle.burr_program.proofs.Results.{file_read, rewrite_input, rewrite_memory, rewrite_unread, rewrite_unwritten, silent_fault, silent_refused}
+use Rattle.std.proofs.lemmas.Result.{err_from_is_err_and}
 use Rattle.burr_judge.specs.Inputs.{RefusesPlanBytes}
 use Rattle.burr_judge.proofs.Common.Results.{err_weaken, plan_text_refuses}
 use Rattle.burr_program.proofs.commands.asm.asm.Goals as goal

@@ -1,4 +1,4 @@
-use Rattle.std.proofs.Common.{refl, arith}
+use Rattle.std.proofs.Common.{refl, inr, arith}
 use Rattle.burr_program.proofs.Results.{call_done, call_stopped, file_read, read_memory, unread}
 use Rattle.burr_program.proofs.commands.check.check.Goals as goal
 

@@ -1,4 +1,4 @@
-use Rattle.std.proofs.Common.{refl, zero, inl, arith}
+use Rattle.std.proofs.Common.{refl, zero, inl, inr, arith}
 use Rattle.burr_judge.proofs.Common.Results.{handed}
 use Rattle.burr_program.specs.FileFaults.{AnyText}
 use Rattle.burr_program.proofs.HowFar.{tells_nothing}

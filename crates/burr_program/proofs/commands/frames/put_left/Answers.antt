@@ -1,3 +1,5 @@
+use Rattle.std.proofs.Common.{List, ℕ, refl, inl}
+use Rattle.std.specs.Prelude.{string_bytes}
 use Rattle.burr_io.proofs.Common.Puts.{Puts-more}
 use Rattle.burr_program.proofs.Results.{notes_fail, notes_put}
 use Rattle.burr_program.proofs.commands.frames.put_left.Goals as goal

@@ -1,4 +1,4 @@
-use Rattle.std.proofs.Common.{refl, inr, arith}
+use Rattle.std.proofs.Common.{refl, inl, inr, arith}
 use Rattle.burr_judge.proofs.Common.Results.{handed}
 use Rattle.burr_program.specs.FileFaults.{AnyText}
 use Rattle.burr_program.proofs.Results.{file_read, rewrite_input, rewrite_memory, rewrite_unread, rewrite_unwritten, silent_fault, silent_refused}

@@ -1,4 +1,4 @@
-use Rattle.std.proofs.Common.{List, ℕ, refl, subst, sym, arith}
+use Rattle.std.proofs.Common.{List, ℕ, refl, subst, sym, inr, arith}
 use Rattle.burr_runs.specs.Views.ReadWhole.{IsWholeInput}
 use Rattle.burr_judge.specs.StepEnds.{left_by}
 use Rattle.burr_program.proofs.Results.{call_done, call_stopped, file_read, read_memory, stdin_unread, unread}

@@ -1,4 +1,4 @@
-use Rattle.std.proofs.Common.{refl, inl, codes, arith}
+use Rattle.std.proofs.Common.{refl, inl, inr, codes, arith}
 use Rattle.burr_program.proofs.Results.{file_read, rewrite_input, rewrite_memory, rewrite_unread, rewrite_unwritten, silent_fault, silent_fault_so, silent_refused}
 use Rattle.burr_program.proofs.commands.upgrade.upgrade.Goals as goal
 

@@ -1,2 +1,0 @@
-pub mod NextAnswers
-pub mod NextLists
